@@ -1,0 +1,2 @@
+-- What the contracts on options cite.
+pub mod Options

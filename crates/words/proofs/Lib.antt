@@ -1,0 +1,3 @@
+-- What is shown of scanning.
+mod Listings
+mod Scans
