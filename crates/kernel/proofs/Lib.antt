@@ -1,0 +1,9 @@
+pub mod Watches
+pub mod Paths
+pub mod Advances
+pub mod Turns
+pub mod Plays
+pub mod Codes
+pub mod Whole
+pub mod Decoded
+pub mod Outcomes
