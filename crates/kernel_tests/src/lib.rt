@@ -52,6 +52,33 @@ pub fn each_order(
     Ok(true)
 }
 
+// Whether some of twenty orders leaves this memory.
+pub fn some_order(heap: Global, case: Case, left: &[u32]) -> Result<bool, AllocError> {
+    let mut ends = vec![in heap; 0; case.rows.len()]?;
+    let mut marks = vec![in heap; 0; case.memory.len().max(1).saturating_mul(2)]?;
+    let mut work = vec![in heap; 0; 1024 * case.threads as usize]?;
+    let mut told = vec![in heap; 9u8; case.threads as usize]?;
+    let mut draw = Draw::new(1);
+    for _ in 0..20 {
+        let mut memory = case.memory.to_vec(heap)?;
+        let _ = draw_order(
+            case.rows,
+            &mut ends,
+            case.threads,
+            case.turns,
+            &mut memory,
+            &mut told,
+            &mut work,
+            &mut marks,
+            &mut draw,
+        );
+        if *memory.as_slice() == *left {
+            return Ok(true);
+        }
+    }
+    Ok(false)
+}
+
 // Whether an order is refused with so much lent for the sum by two threads.
 pub fn few(
     heap: Global,
@@ -85,6 +112,58 @@ pub fn few(
 mod tests {
     use super::*;
     use std::test::*;
+
+    const ROTATE: [u32; 24] = [
+        1,
+        1,
+        4,
+        2,
+        2,
+        1,
+        8,
+        1,
+        3,
+        0,
+        4,
+        4,
+        4,
+        0,
+        2,
+        0,
+        1,
+        3,
+        1,
+        8,
+        4,
+        2,
+        1,
+        0,
+    ];
+
+    const ROTATE_NO_WAIT: [u32; 22] = [
+        1,
+        1,
+        4,
+        2,
+        2,
+        1,
+        8,
+        1,
+        3,
+        0,
+        4,
+        4,
+        4,
+        0,
+        2,
+        0,
+        1,
+        3,
+        4,
+        2,
+        1,
+        0,
+    ];
 
     fn case<'a>(rows: &'a [u32], threads: u32, turns: u32, memory: &'a [u32]) -> Case<'a> {
         Case {
@@ -173,68 +252,26 @@ mod tests {
     #[test]
     fn rotations(rt: LibcRuntime) -> Result<(), Fail> {
         let heap = rt.alloc();
-        let rotate = case(
-            &[
-                1,
-                1,
-                4,
-                2,
-                2,
-                1,
-                8,
-                1,
-                3,
-                0,
-                4,
-                4,
-                4,
-                0,
-                2,
-                0,
-                1,
-                3,
-                1,
-                8,
-                4,
-                2,
-                1,
-                0,
-            ],
-            4,
-            1,
-            &[0, 0, 0, 0],
-        );
-        check(each_order(heap, rotate, false, &[1, 2, 3, 0], &[2, 2, 2, 2])?)?;
-        let no_wait = case(
-            &[
-                1,
-                1,
-                4,
-                2,
-                2,
-                1,
-                8,
-                1,
-                3,
-                0,
-                4,
-                4,
-                4,
-                0,
-                2,
-                0,
-                1,
-                3,
-                4,
-                2,
-                1,
-                0,
-            ],
-            4,
-            1,
-            &[0, 0, 0, 0],
-        );
-        check(each_order(heap, no_wait, true, &[], &[])?)
+        let memory = [0; 4];
+        check(
+            each_order(
+                heap,
+                case(&ROTATE, 4, 1, &memory),
+                false,
+                &[1, 2, 3, 0],
+                &[2; 4],
+            )?,
+        )?;
+        check(each_order(heap, case(&ROTATE_NO_WAIT, 4, 1, &memory), true, &[], &[])?)
+    }
+
+    // Both threads write their number to one word: whichever is last is drawn, and each is at times.
+    #[test]
+    fn each_thread_is_drawn_last(rt: LibcRuntime) -> Result<(), Fail> {
+        let heap = rt.alloc();
+        let write = case(&[0, 4, 0, 0, 2], 2, 1, &[9]);
+        check(some_order(heap, write, &[0])?)?;
+        check(some_order(heap, write, &[1])?)
     }
 
     #[test]
