@@ -24,8 +24,8 @@ TAKEN = {
     "ran-as": "ran_in_words",
 }
 NAME = r"[A-Za-z][A-Za-z0-9_'₀-₉]*(?:-[A-Za-z0-9_'₀-₉]+)+"
-HYPHENED = re.compile(rf"(?<![\w'\-◌]){NAME}(?![\w'◌])")
-DECLARED = re.compile(rf"(?m)^\s*(?:pub )?(?:abbrev )?(?:pub )?(?:record |data |ruleset |let )?({NAME})(?: \{{.*?\}})*(?: \([^=\n]*?\))* :(?!=)(.*)")
+HYPHENED = re.compile(rf"(?<![\w'\-◌])(?:{NAME}|[A-Z][A-Za-z0-9']*_[\w']+)(?![\w'◌])")
+DECLARED = re.compile(rf"(?m)^\s*(?:pub )?(?:abbrev )?(?:pub )?(?:record |data |ruleset |let )?({NAME}|[A-Z][a-z]\w*_\w+)(?: \{{.*?\}})*(?: \([^=\n]*?\))* :(?!=)(.*)")
 BOUND = re.compile(rf"(?:λ|let|\(|\{{)((?:\s+|(?<=[({{]))[\w' ₀-₉-]*{NAME}[\w' ₀-₉-]*)(?=[.:=)])")
 USE = re.compile(r"\buse ([^\s;{]+)(?:\{([^}]*)\})?")
 WALKED = re.compile(r"/proofs/(?:.*/)?(?:Answers|Invariants|Proof)\.antt$")

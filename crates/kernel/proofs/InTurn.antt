@@ -27,7 +27,7 @@ use Rattle.ledger.proofs.Tells.{race_free, kept_tells, kept_in_order}
 use Rattle.kernel.specs.declared.outcome.Clash.{Clash}
 use Rattle.kernel.specs.Choice.{Idle}
 use Rattle.kernel.specs.Says.{CalmWay}
-use Rattle.kernel.specs.Sequence.{verdict_of, Desk, desk, InTurn, CameOn, CameToClash, Goes_on, CalmEnd}
+use Rattle.kernel.specs.Sequence.{verdict_of, Desk, desk, InTurn, CameOn, CameToClash, GoesOn, CalmEnd}
 use Rattle.kernel.proofs.Moves.{goer, touch_grows}
 use Rattle.kernel.proofs.Watches.{one_grows}
 use Rattle.kernel.proofs.Ways.{further}
@@ -93,9 +93,9 @@ module _ {s : Source} {n i : ℕ} {x : Desk} {work' m' : List ℕ} (τ : Touched
     }
 
     -- what is told once the touch is noted
-    pub touch_noted : (noted : Noted) (r : Result (Unit {0}) Clash) → r ≡ verdict_of noted (record { 0 = i }) a → NotePost (ledger x.marks x.stamp) (ledger marks' x.stamp) i a.0 (how h) noted → Goes_on s n x i (desk work' m' marks' x.stamp) i r
-    touch_noted Fine r is post = subst (Goes_on s n x i (desk work' m' marks' x.stamp) i) (sym is) (touched_fine post)
-    touch_noted (Clashed first) r is post = subst (Goes_on s n x i (desk work' m' marks' x.stamp) i) (sym is) (touched_clash first post)
+    pub touch_noted : (noted : Noted) (r : Result (Unit {0}) Clash) → r ≡ verdict_of noted (record { 0 = i }) a → NotePost (ledger x.marks x.stamp) (ledger marks' x.stamp) i a.0 (how h) noted → GoesOn s n x i (desk work' m' marks' x.stamp) i r
+    touch_noted Fine r is post = subst (GoesOn s n x i (desk work' m' marks' x.stamp) i) (sym is) (touched_fine post)
+    touch_noted (Clashed first) r is post = subst (GoesOn s n x i (desk work' m' marks' x.stamp) i) (sym is) (touched_clash first post)
 
 -- a thread that waits or has stopped leaves its turn to the next
 pub rests : {s : Source} {n i : ℕ} {x : Desk} → 0 < status_at x.work i → CameOn s n x i x (i + 1)

@@ -57,8 +57,8 @@ pub record CameToClash (s : Source) (n : ℕ) (x : Desk) (i : ℕ) (k : Clash) :
   pub each : (b : State) (c : ℕ) → InTurn s n x i b c → Met b k
 
 -- what is promised of a part of the order: it has come on, or to a clash
-abbrev pub Goes_on : {A : Type 0} → Source → ℕ → Desk → ℕ → Desk → ℕ → Result A Clash → Type 0
-Goes_on s n x i x' i' r = MatchResult r (λ _. CameOn s n x i x' i') (CameToClash s n x i)
+abbrev pub GoesOn : {A : Type 0} → Source → ℕ → Desk → ℕ → Desk → ℕ → Result A Clash → Type 0
+GoesOn s n x i x' i' r = MatchResult r (λ _. CameOn s n x i x' i') (CameToClash s n x i)
 
 -- after c steps without a clash, the order is at an end, and the words hold what is left
 pub record CalmEnd (s : Source) (n : ℕ) (b : State) (c : ℕ) (work m : List ℕ) : Type 0 where

@@ -4,7 +4,7 @@ ghost use Rattle.machine.specs.Loads.{loads};
 ghost use Rattle.machine.specs.Stands.{source};
 ghost use Rattle.machine.specs.Together.{status_at};
 ghost use Rattle.ledger.specs.Runs.{ledger_words};
-ghost use Rattle.kernel.specs.Sequence.{verdict_of, desk, SomeInTurn, Goes_on, CameToEnd, CameToClash, RunsToEnd, RunsToClash};
+ghost use Rattle.kernel.specs.Sequence.{verdict_of, desk, SomeInTurn, GoesOn, CameToEnd, CameToClash, RunsToEnd, RunsToClash};
 ghost use Rattle.kernel.specs.Whole.{SomeText};
 
 use crate::outcome::Clash;
@@ -40,7 +40,7 @@ fn step_noted(
     requires some { SomeInTurn (source script.now) threads (desk work.old memory.old marks.old stamp.count) thread.0 }
     requires within { thread.0 < threads }
     requires goes { status_at work.old thread.0 ≡ 0 }
-    ensures on { Goes_on (source script.now) threads (desk work.old memory.old marks.old stamp.count) thread.0 (desk work.new memory.new marks.new stamp.count) thread.0 result }
+    ensures on { GoesOn (source script.now) threads (desk work.old memory.old marks.old stamp.count) thread.0 (desk work.new memory.new marks.new stamp.count) thread.0 result }
     ensures lighter { loads (source script.now) work.new threads < loads (source script.now) work.old threads }
 {
     let Touched::At(place, access) = step_of(script, work, memory, thread, threads) else {
@@ -66,7 +66,7 @@ fn run_thread(
     requires some { SomeInTurn (source script.now) threads (desk work.old memory.old marks.old stamp.count) thread.0 }
     requires within { thread.0 < threads }
     requires words { 528 * threads ≤ length work.old }
-    ensures on { Goes_on (source script.now) threads (desk work.old memory.old marks.old stamp.count) thread.0 (desk work.new memory.new marks.new stamp.count) (thread.0 + 1) result }
+    ensures on { GoesOn (source script.now) threads (desk work.old memory.old marks.old stamp.count) thread.0 (desk work.new memory.new marks.new stamp.count) (thread.0 + 1) result }
     ensures lighter { loads (source script.now) work.new threads ≤ loads (source script.now) work.old threads }
 {
     'steps: while work[WORDS * thread.0 as usize + STATUS] == 0 {
@@ -86,7 +86,7 @@ fn run_stretch(
 ) -> Result<(), Clash>
     requires some { SomeInTurn (source script.now) threads (desk work.old memory.old marks.old stamp.count) 0 }
     requires words { 528 * threads ≤ length work.old }
-    ensures on { Goes_on (source script.now) threads (desk work.old memory.old marks.old stamp.count) 0 (desk work.new memory.new marks.new stamp.count) threads result }
+    ensures on { GoesOn (source script.now) threads (desk work.old memory.old marks.old stamp.count) 0 (desk work.new memory.new marks.new stamp.count) threads result }
     ensures lighter { loads (source script.now) work.new threads ≤ loads (source script.now) work.old threads }
 {
     'threads: for j in 0..threads {

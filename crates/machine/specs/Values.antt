@@ -43,6 +43,6 @@ pub record Valued (s : Source) (v : Seen) (p x : ℕ) : Type 0 where
   pub is : (e : Expr) → ExprStands s p e → x ≡ value_in v e
 
 -- the value of what stands at p, or that it is an operation
-abbrev pub Found_at : Source → Seen → ℕ → Operand → Type 0
-Found_at s v p (Value x) = Valued s v p x
-Found_at s v p Operation = (o : Op) × (Head-operation o ≡ expression_at s p)
+abbrev pub FoundAt : Source → Seen → ℕ → Operand → Type 0
+FoundAt s v p (Value x) = Valued s v p x
+FoundAt s v p Operation = (o : Op) × (Head-operation o ≡ expression_at s p)

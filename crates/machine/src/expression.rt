@@ -2,7 +2,7 @@
 ghost use Rattle.std.specs.Prelude.{◌≡◌};
 ghost use Rattle.model.specs.Kernel.{Expr, operate};
 ghost use Rattle.machine.specs.Stands.{source};
-ghost use Rattle.machine.specs.Values.{ExprHere, ExprAt, SomeOperation, Found_at, Valued};
+ghost use Rattle.machine.specs.Values.{ExprHere, ExprAt, SomeOperation, FoundAt, Valued};
 
 use crate::script::{Script, expression_head, operation_of};
 use model::Op;
@@ -42,7 +42,7 @@ pub enum Operand {
 // What has no parts is read in place.
 fn operand_at(script: &Script, seen: &Seen, at: usize) -> Operand
     requires { ExprHere (source script.now) seen.now at }
-    ensures { Found_at (source script.now) seen.now at result }
+    ensures { FoundAt (source script.now) seen.now at result }
 {
     match expression_head(script, at) {
         Expression::Number(n) => Operand::Value(n),

@@ -1,7 +1,7 @@
 -- The theorems about orders, from the diamond, the cost and the one order.
 use Rattle.std.proofs.Common.{◌≡◌, ℕ, zero, suc, sym, ◌∙◌, inl, inr, true≢false, le_refl}
 use Rattle.model.specs.Steps.{State, Step, one, together, Steps, Reaches, Ended, begin}
-use Rattle.model.specs.Orders.{Clash, RaceFree, Calm, after, Meets, FirstOrderTells, Goes_on, AnyOrder, OneOrderTells}
+use Rattle.model.specs.Orders.{Clash, RaceFree, Calm, after, Meets, FirstOrderTells, GoesOn, AnyOrder, OneOrderTells}
 use Rattle.model.proofs.Chains.{forget, along, linked}
 use Rattle.model.proofs.Confluence.{Stuck, drags, tells}
 use Rattle.model.proofs.Diamond.{none_goes, diamond}
@@ -19,7 +19,7 @@ at_end : (d : ℕ) (e u : State) → Ended e → Calm d e u → e ≡ u
 at_end zero e u end p = p.1
 at_end (suc d) e u end p = absurd (stuck e end p.1.0 p.1.1)
 
-pub goes_on : Goes_on
+pub goes_on : GoesOn
 goes_on s =
     let r = in_order (λ _. Unit {0}) (state_cost s) s (le_refl _) (λ _ _. tt) in
     (after r.0 s, (r.0, forget (λ _. Unit {0}) Step r.0 s (after r.0 s) r.1), r.2)

@@ -69,8 +69,8 @@ abbrev pub FirstOrderTells : Type 0
 FirstOrderTells = (k : Kernel) (n turns : ℕ) (m : List ℕ) → Racy k n turns m → (c : ℕ) × Steps c (begin k n turns m) (after c (begin k n turns m)) × Clash (after c (begin k n turns m))
 
 -- Every order can be carried on to an end.
-abbrev pub Goes_on : Type 0
-Goes_on = (s : State) → (e : State) × Reaches s e × Ended e
+abbrev pub GoesOn : Type 0
+GoesOn = (s : State) → (e : State) × Reaches s e × Ended e
 
 -- With no clash in any order, all orders end alike: thread by thread and word by word.
 abbrev pub AnyOrder : Type 0
@@ -87,6 +87,6 @@ pub record Parts : Type 0 where
   pub meets : Meets
   pub first_order_steps : FirstOrderSteps
   pub first_order_tells : FirstOrderTells
-  pub goes_on : Goes_on
+  pub goes_on : GoesOn
   pub any_order : AnyOrder
   pub one_order_tells : OneOrderTells
