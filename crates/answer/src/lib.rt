@@ -1,6 +1,8 @@
 // What the programs print: where rows are no text, whether a text is even, and what is left of a run.
 //
 // Proved: how many threads are told to be in a state (specs/States.antt). All else is only tested.
+#![tactic(auto)]
+
 ghost use Rattle.std.specs.Prelude.{◌≡◌};
 ghost use Rattle.answer.specs.States.{in_state};
 

@@ -1,4 +1,6 @@
 // The tests of the crates words and cli. They stand apart, since a crate with tests is proved once more for them.
+#![tactic(auto)]
+
 use cli::fault::{Fault, FileName};
 use cli::flag::Flag;
 use cli::input::{Input, read_words};

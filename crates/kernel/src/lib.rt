@@ -5,6 +5,8 @@
 // runs one order in which the next thread is drawn, and promises that what is left is reached by steps of the
 // definitions, that the end is an end, and that the flag says exactly whether two threads clashed on the way. `lead`
 // goes through an order step by step up to its first clash, and promises that an order leads to the clash it tells.
+#![tactic(auto)]
+
 pub mod choice;
 pub mod draw;
 pub mod drawn;

@@ -1,5 +1,7 @@
 // The tests of the crate kernel: the worked examples, each by `run`, in twenty drawn orders and led step by step, and too
 // little lent memory. They stand apart, since a crate with tests is proved once more for them.
+#![tactic(auto)]
+
 use kernel::draw::Draw;
 use kernel::drawn::{Drawn, draw_order};
 use kernel::led::{Led, lead};

@@ -5,6 +5,8 @@
 // which is a step where no thread is going. Promised is that each of these is what the definitions say, for
 // every state that the words hold, and that each step leaves less to do (`loads`), so that loops over steps
 // end. The words say nothing of what was touched before: whoever looks for clashes keeps that.
+#![tactic(auto)]
+
 pub mod all;
 pub mod expression;
 pub mod release;

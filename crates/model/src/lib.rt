@@ -1,5 +1,7 @@
 // What a text is, what its threads do, and when they clash. The definitions that every contract of the
 // project rests on stand in specs/; here is what is promised of them, and the types that code handles too.
+#![tactic(auto)]
+
 ghost use Rattle.model.specs.Cases.{Cases};
 ghost use Rattle.model.specs.Orders.{Parts};
 

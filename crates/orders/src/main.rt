@@ -1,4 +1,6 @@
 // Runs a text in orders that are drawn, and says whether they ended alike, and in which two threads clashed.
+#![tactic(auto)]
+
 use answer::{Left, NoText};
 use cli::fault::Fault;
 use cli::flag::Flag;

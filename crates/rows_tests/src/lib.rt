@@ -1,4 +1,6 @@
 // The tests of the crate rows. They stand apart, since a crate with tests is proved once more for them.
+#![tactic(auto)]
+
 ghost use Rattle.std.specs.Prelude.{◌<◌, ◌≤◌};
 
 use rows::{Fault, decode};

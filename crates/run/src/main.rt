@@ -1,4 +1,6 @@
 // Runs a text in one order, and says what holds of all orders: whether it is even.
+#![tactic(auto)]
+
 use answer::{Even, Left, NoText, Uneven};
 use cli::fault::Fault;
 use cli::flag::Flag;

@@ -3,6 +3,8 @@
 // Rows are written in prefix order on a page of a fixed size. Proved is that whatever is begun comes to its end on the
 // page: each function that writes a part lowers what is owed by one, and the page always has room for what is owed. That
 // the rows are then a text is not proved; whoever runs them sees it.
+#![tactic(auto)]
+
 pub mod case;
 mod expression;
 mod page;

@@ -1,4 +1,6 @@
 // Makes texts by chance, runs each in one order by `run` and in orders that are drawn, and says whether they agree.
+#![tactic(auto)]
+
 mod compare;
 mod desk;
 mod report;

@@ -2,6 +2,8 @@
 //
 // It promises what `kernel::run` promises, with the answer as a number and the clash in a slice. C holds
 // nobody to pointers that are right: what a caller owes is said in docs/EMBEDDING.md.
+#![tactic(auto)]
+
 ghost use Rattle.std.specs.Prelude.{◌≡◌, length};
 ghost use Rattle.vinzurkog.specs.Export.{number, with_clash, Exported};
 
