@@ -4,16 +4,13 @@
 programs=$top/target/bench/release
 c_programs=$top/target/bench/c
 
-# Proves the call and writes target/staticlib/libvinzurkog.a. What rt says is of use only where it fails.
+# Proves the call and writes crates/vinzurkog/out/libvinzurkog.a. What rt says is of use only where it fails.
 build_library() {
     printf 'building the proved call\n' >&2
-    if ! chatter=$(cd "$top" && rt staticlib vinzurkog 2>&1); then
-        printf '%s\nthe library target/staticlib/libvinzurkog.a could not be built\n' "$chatter" >&2
+    if ! chatter=$(cd "$top/crates/vinzurkog" && rt lib 2>&1); then
+        printf '%s\nthe library crates/vinzurkog/out/libvinzurkog.a could not be built\n' "$chatter" >&2
         return 1
     fi
-    # rt asks for its own small library to be linked beside; its guide stands two folders below the kit.
-    RATTLE_LIB=$(dirname "$(dirname "$(rt doc)")")/lib
-    export RATTLE_LIB
 }
 
 # Builds one program of the workspace in bench/. Nothing is fetched: it rests on the standard library alone.

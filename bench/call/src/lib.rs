@@ -1,4 +1,4 @@
-//! The proved call, as `rt staticlib vinzurkog` exports it, behind slices.
+//! The proved call, as the static library of crates/vinzurkog exports it, behind slices.
 
 #[link(name = "vinzurkog", kind = "static")]
 extern "C" {

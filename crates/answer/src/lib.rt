@@ -1,4 +1,4 @@
-// What the programs print: where rows are no text, whether a text is even, and what is left of a run.
+// What the programs print: the size of a text, where rows are no text, whether a text is even, and what is left of a run.
 //
 // Proved: how many threads are told to be in a state (specs/States.antt). All else is only tested.
 #![tactic(auto)]
@@ -7,7 +7,7 @@ ghost use Rattle.std.specs.Prelude.{◌≡◌};
 ghost use Rattle.answer.specs.States.{in_state};
 
 use model::{Place, ThreadId};
-use rows::{Fault, Refusal};
+use rows::{Fault, Refusal, Text};
 use std::fmt;
 
 /// What stands for a thread that ended.
@@ -15,6 +15,23 @@ const ENDED: u8 = 2;
 
 /// What stands for a thread that is out of turns.
 const OUT_OF_TURNS: u8 = 3;
+
+/// The size of a text.
+#[derive(Clone, Copy)]
+pub struct Size(pub Text);
+
+impl fmt::Display for Size {
+    fn fmt<W: fmt::Write>(&self, f: &mut fmt::Formatter<W>) -> fmt::Result {
+        let variables = self.0.variables;
+        let statements = self.0.statements;
+        let words = self.0.words;
+        let deep = self.0.deep;
+        write!(
+            f,
+            "text: {variables} variables, {statements} statements, {words} words, {deep} deep"
+        )
+    }
+}
 
 /// Where rows are no text, and why.
 #[derive(Drop)]

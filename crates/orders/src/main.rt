@@ -6,10 +6,11 @@ use cli::fault::Fault;
 use cli::flag::Flag;
 use cli::input::Input;
 use cli::options::Options;
-use cli::program::{Ended, begin, end};
+use cli::program::{begin, end};
 use kernel::draw::Draw;
 use kernel::drawn::{Drawn, draw_order};
 use std::fmt;
+use std::process::ExitCode;
 use words::budget::Task;
 
 const USAGE: &str =
@@ -204,6 +205,6 @@ fn run(rt: &HostRuntime) -> Result<bool, Fault> {
     }
 }
 
-fn main(rt: HostRuntime) -> Result<(), Ended> {
+fn main(rt: HostRuntime) -> ExitCode {
     end(&rt, run(&rt))
 }

@@ -121,7 +121,7 @@ impl fmt::Display for Report<'_> {
         writeln!(f, "text {number}: {why}")?;
         writeln!(
             f,
-            "# ./kernel run --threads {threads} --turns {turns} --memory {number}.words {number}.rows"
+            "# ./kernel verdict --threads {threads} --turns {turns} --memory {number}.words {number}.rows"
         )?;
         writeln!(
             f,
