@@ -83,7 +83,7 @@ fn call_by_hand(case: &Case) -> std::io::Result<String> {
     let rows = words_to(&folder, "text.rows", &case.rows)?;
     let memory = words_to(&folder, "memory.words", &case.memory)?;
     let memory = if case.memory.is_empty() { String::new() } else { format!("--memory {} ", memory.display()) };
-    Ok(format!("./kernel run --threads {} --turns {} {memory}{}", case.threads, case.turns, rows.display()))
+    Ok(format!("./kernel verdict --threads {} --turns {} {memory}{}", case.threads, case.turns, rows.display()))
 }
 
 fn words_to(folder: &Path, name: &str, words: &[u32]) -> std::io::Result<PathBuf> {
