@@ -9,8 +9,7 @@ use Rattle.machine.specs.Stands.{Source}
 use Rattle.machine.specs.Words.{status_word, status_as, status_code}
 use Rattle.machine.specs.All.{AllHeld, StatusOf}
 use Rattle.machine.proofs.Parts.{nth_within}
-use Rattle.kernel.specs.Outcome.{codes}
-use Rattle.kernel.specs.Whole.{Written}
+use Rattle.kernel.specs.Ran.{codes, Written}
 
 -- v is the number of thread j, whatever threads the words hold
 pub record CodeOf (work : List ℕ) (j v : ℕ) : Type 0 where

@@ -5,7 +5,7 @@ use Rattle.rows.specs.declared.decoder.Text.{Text}
 use Rattle.rows.specs.Decoded.{Decoded, DecodePost}
 use Rattle.machine.specs.Stands.{Source}
 use Rattle.machine.proofs.Begin.{decoded_text}
-use Rattle.kernel.specs.Whole.{TextIn, SomeText}
+use Rattle.kernel.specs.Ran.{TextIn, SomeText}
 
 pub decoded_in : {w t t' : List ℕ} {x : Text} {k : Kernel} → Decoded w t t' x k → TextIn (record { rows = w; ends = t'; variables = x.variables }) k
 decoded_in d = record { says = d.says; variables = d.variables; stands = decoded_text _ d refl }

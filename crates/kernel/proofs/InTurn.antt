@@ -1,5 +1,5 @@
 -- Threads go one after the other: what a step of the next thread, its rest, and the step of all that wait give.
-use Rattle.std.proofs.Common.{◌≡◌, ℕ, suc, ◌+◌, ◌<◌, true, false, List, Some, Result, sym, ap, ◌∙◌, subst, ⊎_elim, arith}
+use Rattle.std.proofs.Common.{◌≡◌, ℕ, suc, ◌+◌, ◌<◌, true, false, List, Some, Result, sym, refl, ap, ◌∙◌, subst, ⊎_elim, arith}
 use Rattle.std.specs.List.{slice_get}
 use Rattle.std.proofs.lemmas.Bool.{cond-true, cases_eq}
 use Rattle.model.specs.declared.Place.{Place}
@@ -80,7 +80,7 @@ module _ {s : Source} {n i : ℕ} {x : Desk} {work' m' : List ℕ} (τ : Touched
     touched_fine post = record {
       each = λ b c run.
           let on = stepped_on b c run in
-          let grows = one_grows τ a h touch on.grows in
+          let grows = one_grows τ a h (how h) touch refl on.grows in
           (suc c, record { way = on.way; held = on.held; tells = post.means.tells _ _ run.tells grows; in_order = post.means.in_order _ _ run.tells run.in_order grows; rested = on.rested });
     }
 
@@ -88,7 +88,7 @@ module _ {s : Source} {n i : ℕ} {x : Desk} {work' m' : List ℕ} (τ : Touched
     touched_clash first post = record {
       each = λ b c run.
           let on = stepped_on b c run in
-          let race = post.means.in_order _ _ run.tells run.in_order (one_grows τ a h touch on.grows) in
+          let race = post.means.in_order _ _ run.tells run.in_order (one_grows τ a h (how h) touch refl on.grows) in
           record { count = suc c; way = on.way; race = race.0; order = race.1 };
     }
 

@@ -1,5 +1,5 @@
 -- The order that is led step by step: a step of it, its end, and what both say of the whole.
-use Rattle.std.proofs.Common.{◌≡◌, ℕ, suc, ◌<◌, List, Ok, Err, Result, MatchResult}
+use Rattle.std.proofs.Common.{◌≡◌, ℕ, suc, ◌<◌, List, Ok, Err, Result, refl, MatchResult}
 use Rattle.model.specs.declared.Place.{Place}
 use Rattle.model.specs.declared.ThreadId.{ThreadId}
 use Rattle.model.specs.Kernel.{Kernel}
@@ -24,12 +24,12 @@ use Rattle.kernel.specs.declared.led.ClashAt.{ClashAt}
 use Rattle.kernel.specs.declared.watch.Watch.TheVariants.{Quiet}
 use Rattle.kernel.specs.Led.{ToClash, ToEnd, LeadsToEnd, LeadsToClash}
 use Rattle.kernel.specs.Order.{Board, board, AtEnd}
-use Rattle.kernel.specs.Whole.{SomeText}
+use Rattle.kernel.specs.Ran.{SomeText}
 use Rattle.kernel.proofs.Moves.{goer, touch_grows}
 use Rattle.kernel.proofs.Paths.{then, calm}
 use Rattle.kernel.proofs.Plays.{Playing}
 use Rattle.kernel.proofs.Watches.{one_grows}
-use Rattle.kernel.proofs.Whole.{begins, settled, text_of}
+use Rattle.kernel.proofs.Whole.{begins, decided, text_of}
 
 -- a step whose touch the ledger tells as a clash is a step to that clash
 pub step_clashes : {s : Source} {n : ℕ} (i : ThreadId) {work work' m m' marks : List ℕ} {l' : Ledger} (stamp : Stamp) (r : Touched) (a : Place) (h : Access) (first : ThreadId) → i.0 < n → status_at work i.0 ≡ 0 → SteppedOf s i.0 n work work' m m' r → r ≡ At a h → NotePost (ledger marks stamp.count) l' i.0 a.0 (how h) (Clash first) → ToClash s n (board work m marks (Quiet stamp)) (record { thread = i; place = a })
@@ -38,7 +38,7 @@ step_clashes i stamp r a h first within goes step touch post = record {
       let g = goer st run.held within goes in
       let t = g.thread in
       let moved = step.each st t run.held g.is g.goes in
-      let race = post.means.race st (stepped st i.0 t) run.said.0 (one_grows r a h touch (touch_grows st t r moved g.is)) in
+      let race = post.means.race st (stepped st i.0 t) run.said.0 (one_grows r a h (how h) touch refl (touch_grows st t r moved g.is)) in
       record {
         state = stepped st i.0 t;
         reached = (suc run.count, then run.count b st (stepped st i.0 t) run.path (one i.0 t g.is g.goes));
@@ -73,4 +73,4 @@ none_clashes n turns m post leads =
     let k = post.says.0 in
     let says = post.says.1.says in
     let end = leads.each k says in
-    (k, says, (settled k n turns m end.count end.state end.way end.ended).no_clash)
+    (k, says, (decided k n turns m end.count end.state end.way end.ended).settled.no_clash)

@@ -9,12 +9,11 @@ use Rattle.ledger.specs.Places.{ledger}
 use Rattle.ledger.specs.Runs.{ledger_words}
 use Rattle.ledger.specs.Promises.{OpenPost}
 use Rattle.kernel.specs.declared.outcome.Clash.{Clash}
-use Rattle.kernel.specs.Outcome.{Settled}
 use Rattle.kernel.specs.Says.{IsEven}
-use Rattle.kernel.specs.Whole.{TextIn, SomeText, Written}
+use Rattle.kernel.specs.Ran.{TextIn, SomeText, Written}
 use Rattle.kernel.specs.Sequence.{desk, InTurn, SomeInTurn, CalmEnd, CameToEnd, CameToClash, RunsToEnd, RunsToClash}
 use Rattle.kernel.proofs.Ways.{no_way, calm_chain}
-use Rattle.kernel.proofs.Whole.{begin_held, text_of, settled, handed_out}
+use Rattle.kernel.proofs.Whole.{begin_held, text_of, decided, handed_out}
 
 module _ {s : Source} {n turns words stamp : ℕ} {work marks : List ℕ} (begun : AllBegun work n turns) (open_post : OpenPost words (ledger marks stamp)) where
   begins : (k : Kernel) (m : List ℕ) → TextIn s k → InTurn s n (desk work m marks stamp) 0 (begin k n turns m) 0
@@ -39,12 +38,12 @@ module _ {s : Source} {n turns words stamp : ℕ} {work marks : List ℕ} (begun
   whole m work' m' text (Ok v) came = record { each = λ k says. came.each (begin k n turns m) 0 (begins k m (text_of text k says)) }
   whole m work' m' text (Err x) came = record { each = λ k says. came.each (begin k n turns m) 0 (begins k m (text_of text k says)) }
 
--- an end without a clash settles how all orders end
+-- an end without a clash decides how all orders end
 pub even : {s : Source} {n turns c : ℕ} {work' m m' o o' : List ℕ} (k : Kernel) → CalmEnd s n (begin k n turns m) c work' m' → Written work' n o o' → IsEven k n turns m m' o o'
 even {n = n} {turns} {c} {m = m} k end written = record {
   count = c;
   way = end.way;
   ended = end.ended;
   left = handed_out end.held written;
-  settled = settled k n turns m c (after c (begin k n turns m)) (calm_chain c (begin k n turns m) end.way end.free) end.ended;
+  decided = decided k n turns m c (after c (begin k n turns m)) (calm_chain c (begin k n turns m) end.way end.free) end.ended;
 }

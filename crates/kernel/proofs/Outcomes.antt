@@ -11,9 +11,10 @@ use Rattle.rows.proofs.Texts.{one_kernel}
 use Rattle.ledger.proofs.Posts.{laws}
 use Rattle.kernel.specs.declared.drawn.Lent.{Lent}
 use Rattle.kernel.specs.declared.drawn.Drawn.TheVariants.{Few, NoText, Ended}
-use Rattle.kernel.specs.Outcome.{Parts}
-use Rattle.kernel.specs.Drawn.{Enough, DrawnPost}
-use Rattle.kernel.specs.Whole.{OrderPost}
+use Rattle.kernel.specs.Drawn.{Parts, Enough, DrawnPost}
+use Rattle.kernel.specs.Ran.{OrderPost}
+use Rattle.kernel.specs.Outcome.{IsWhole}
+use Rattle.kernel.proofs.Whole.{whole}
 
 pub parts : Parts
 parts = record { one_kernel = one_kernel; orders = model.parts; ledger_tells = laws.ledger_tells }
@@ -33,3 +34,10 @@ module _ (w : List ℕ) (n turns : ℕ) (l : Lent) (m o : List ℕ) where
       let k = post.says.0 in
       let says = post.says.1.says in
       record { says = (k, says, order.each k says); parts = parts }
+
+-- an order that has run is a whole one of the kernel that the rows say
+pub ended_whole : (w : List ℕ) (n turns : ℕ) (m o t t' m' o' : List ℕ) (x : Text) (r : Bool) → DecodePost w t t' (Ok x) → OrderPost w n turns m m' o o' r → IsWhole w n turns m m' o o' (Ended r)
+ended_whole w n turns m o t t' m' o' x r post order =
+    let k = post.says.0 in
+    let says = post.says.1.says in
+    (k, says, whole (order.each k says))

@@ -1,11 +1,12 @@
 -- What an order of a text is promised to be.
-pub mod Outcome
-pub mod Says
-pub mod Drawn
-pub mod Whole
-pub mod Sequence
 pub mod Numbers
 pub mod Choice
 pub mod Watching
 pub mod Order
+pub mod Ran
+pub mod Drawn
+pub mod Outcome
+pub mod Says
+pub mod Sequence
+pub mod Whole
 pub mod Led

@@ -8,7 +8,8 @@ use Rattle.model.specs.Orders.{RaceFree, after}
 use Rattle.kernel.specs.declared.outcome.Clash.{Clash}
 use Rattle.kernel.specs.declared.outcome.Ran.{Ran}
 use Rattle.kernel.specs.declared.outcome.Ran.TheVariants.{Even, Uneven, NoKernel, Few}
-use Rattle.kernel.specs.Outcome.{HandedOut, Settled, Parts}
+use Rattle.kernel.specs.Drawn.{Parts}
+use Rattle.kernel.specs.Outcome.{HandedOut, Decided}
 
 -- Threads go one after the other from b, each until it waits or stops: the first c steps of that order are
 -- steps, and no state before the last of them has a clash.
@@ -16,13 +17,13 @@ pub record CalmWay (b : State) (c : ℕ) : Type 0 where
   pub steps : (d : ℕ) → d < c → Step (after d b) (after (suc d) b)
   pub calm : (d : ℕ) → d < c → RaceFree (after d b)
 
--- That order comes to an end; what it leaves there is handed out, and settles how all orders end.
+-- That order comes to an end; what it leaves there is handed out, and decides how all orders end.
 pub record IsEven (k : Kernel) (n turns : ℕ) (m m' o o' : List ℕ) : Type 0 where
   pub count : ℕ
   pub way : CalmWay (begin k n turns m) count
   pub ended : Ended (after count (begin k n turns m))
   pub left : HandedOut n (after count (begin k n turns m)) m' o o'
-  pub settled : Settled k n turns m (after count (begin k n turns m))
+  pub decided : Decided k n turns m (after count (begin k n turns m))
 
 -- That order comes to a clash, the first on its way, of the two threads at the place that are told.
 pub record Met (b : State) (x : Clash) : Type 0 where

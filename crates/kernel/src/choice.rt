@@ -8,7 +8,7 @@ use model::ThreadId;
 // The first thread that is going, of those from `from` on and below `to`.
 fn first_going(work: &[u32], from: u32, to: u32) -> Option<ThreadId>
     requires order { from ≤ to }
-    requires room { 528 * to ≤ length work.now }
+    requires room { 1024 * to ≤ length work.now }
     ensures { First work.now from to result }
 {
     'threads: for j in from..to {
@@ -23,7 +23,7 @@ fn first_going(work: &[u32], from: u32, to: u32) -> Option<ThreadId>
 // that is going can be the next.
 pub fn next_going(work: &[u32], threads: u32, from: u32) -> Option<ThreadId>
     requires order { from ≤ threads }
-    requires room { 528 * threads ≤ length work.now }
+    requires room { 1024 * threads ≤ length work.now }
     ensures { Next work.now from threads result }
 {
     match first_going(work, from, threads) {

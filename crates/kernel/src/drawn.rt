@@ -1,6 +1,7 @@
 // One drawn order of rows, on lent memory.
 ghost use Rattle.std.specs.Prelude.{◌≡◌, true, false, length};
 ghost use Rattle.kernel.specs.Drawn.{Enough, DrawnPost};
+ghost use Rattle.kernel.specs.Outcome.{IsWhole};
 
 use crate::draw::Draw;
 use crate::order::run_order;
@@ -50,7 +51,8 @@ pub fn draw_order<'a>(
     marks: &mut [u32],
     draw: &mut Draw,
 ) -> Drawn
-    ensures { DrawnPost rows.now threads turns (record { ends = length ends.entry.now; states = length states.old; work = length work.old; marks = length marks.old }) memory.old memory.new states.old states.new result }
+    ensures post { DrawnPost rows.now threads turns (record { ends = length ends.entry.now; states = length states.old; work = length work.old; marks = length marks.old }) memory.old memory.new states.old states.new result }
+    ensures whole { IsWhole rows.now threads turns memory.old memory.new states.old states.new result }
 {
     let lent = Lent {
         ends: ends.len(),

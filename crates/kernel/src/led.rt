@@ -6,7 +6,7 @@ ghost use Rattle.machine.specs.Together.{status_at};
 ghost use Rattle.kernel.specs.declared.watch.Watch.TheVariants.{Quiet};
 ghost use Rattle.kernel.specs.Drawn.{Enough};
 ghost use Rattle.kernel.specs.Order.{board, SomeRun};
-ghost use Rattle.kernel.specs.Whole.{SomeText};
+ghost use Rattle.kernel.specs.Ran.{SomeText};
 ghost use Rattle.kernel.specs.Led.{SteppedOn, GoneOn, ToEnd, ToClash, LeadsToEnd, LeadsToClash, LedSays, meets};
 
 use crate::choice::next_going;
@@ -15,7 +15,7 @@ use crate::outcome::Clash;
 use crate::watch::note_touch;
 use ledger::{Noted, Stamp, next_stretch, open};
 use machine::all::{begin_all, step_of};
-use machine::release::resume_all;
+use machine::resume::resume_all;
 use machine::script::Script;
 use machine::touched::Touched;
 use model::{Place, ThreadId};

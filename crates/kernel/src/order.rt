@@ -4,7 +4,7 @@ ghost use Rattle.machine.specs.Stands.{source};
 ghost use Rattle.machine.specs.Together.{status_at};
 ghost use Rattle.ledger.specs.Runs.{ledger_words};
 ghost use Rattle.kernel.specs.Order.{board, SomeRun, WentOn, Turned, Played};
-ghost use Rattle.kernel.specs.Whole.{SomeText, OrderPost};
+ghost use Rattle.kernel.specs.Ran.{SomeText, OrderPost};
 
 use crate::choice::next_going;
 use crate::draw::Draw;
@@ -12,7 +12,7 @@ use crate::states::write_states;
 use crate::watch::Watch;
 use ledger::open;
 use machine::all::{begin_all, step_of};
-use machine::release::resume_all;
+use machine::release::{Released, release_all};
 use machine::script::Script;
 use model::ThreadId;
 
@@ -52,10 +52,10 @@ fn turn(
     if let Some(thread) = next_going(work, threads, from) {
         return Some(advance(script, threads, thread, memory, work, marks, watch));
     }
-    if !resume_all(work, threads) {
-        return None;
+    match release_all(work, threads) {
+        Released::Waiting => Some(watch.resumed(marks)),
+        Released::Nobody | Released::End => None,
     }
-    Some(watch.resumed(marks))
 }
 
 // The order is carried on to an end.
@@ -91,7 +91,7 @@ pub fn run_order(
     draw: &mut Draw,
 ) -> bool
     requires text { SomeText (source script.now) }
-    requires words { 528 * threads ≤ length work.old }
+    requires words { 1024 * threads ≤ length work.old }
     requires room { ledger_words (length memory.old) ≤ length marks.old }
     requires places { threads ≤ length states.old }
     ensures { OrderPost (source script.now).rows threads turns memory.old memory.new states.old states.new result }

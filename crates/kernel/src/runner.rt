@@ -49,7 +49,7 @@ fn hand_out(
     states: &mut [u8],
 )
     requires copy { length memory.old ≡ length copy.now }
-    requires words { 528 * threads ≤ length work.now }
+    requires words { 1024 * threads ≤ length work.now }
     requires places { threads ≤ length states.old }
     ensures { HandsOut ran copy.now work.now threads memory.old memory.new states.old states.new }
 {
@@ -60,7 +60,7 @@ fn hand_out(
 }
 
 // Runs the rows in the parts of the lent words: the table of ends, a copy of the memory, two words for each
-// place, and 528 for each thread. The memory itself is changed only once the run is known to be even.
+// place, and 1,024 for each thread. The memory itself is changed only once the run is known to be even.
 fn run_in_parts<'a>(
     rows: &'a [u32],
     threads: u32,
@@ -76,7 +76,7 @@ fn run_in_parts<'a>(
     requires ends { length rows.now ≤ length ends.old }
     requires copy { length copy.old ≡ length memory.old }
     requires marks { ledger_words (length memory.old) ≤ length marks.old }
-    requires work { 528 * threads ≤ length work.old }
+    requires work { 1024 * threads ≤ length work.old }
     ensures { HasRun rows.now threads turns memory.old memory.new states.old states.new result }
 {
     let Ok(text) = decode(rows, ends) else {

@@ -5,13 +5,13 @@ ghost use Rattle.machine.specs.Stands.{source};
 ghost use Rattle.machine.specs.Together.{status_at};
 ghost use Rattle.ledger.specs.Runs.{ledger_words};
 ghost use Rattle.kernel.specs.Sequence.{verdict_of, desk, SomeInTurn, GoesOn, CameToEnd, CameToClash, RunsToEnd, RunsToClash};
-ghost use Rattle.kernel.specs.Whole.{SomeText};
+ghost use Rattle.kernel.specs.Ran.{SomeText};
 
 use crate::outcome::Clash;
 use crate::watch::note_touch;
 use ledger::{Noted, Stamp, next_stretch, open};
 use machine::all::{begin_all, step_of};
-use machine::release::resume_all;
+use machine::resume::resume_all;
 use machine::script::Script;
 use machine::thread::{STATUS, WORDS};
 use machine::touched::Touched;
@@ -65,7 +65,7 @@ fn run_thread(
 ) -> Result<(), Clash>
     requires some { SomeInTurn (source script.now) threads (desk work.old memory.old marks.old stamp.count) thread.0 }
     requires within { thread.0 < threads }
-    requires words { 528 * threads ≤ length work.old }
+    requires words { 1024 * threads ≤ length work.old }
     ensures on { GoesOn (source script.now) threads (desk work.old memory.old marks.old stamp.count) thread.0 (desk work.new memory.new marks.new stamp.count) (thread.0 + 1) result }
     ensures lighter { loads (source script.now) work.new threads ≤ loads (source script.now) work.old threads }
 {
@@ -85,7 +85,7 @@ fn run_stretch(
     stamp: Stamp,
 ) -> Result<(), Clash>
     requires some { SomeInTurn (source script.now) threads (desk work.old memory.old marks.old stamp.count) 0 }
-    requires words { 528 * threads ≤ length work.old }
+    requires words { 1024 * threads ≤ length work.old }
     ensures on { GoesOn (source script.now) threads (desk work.old memory.old marks.old stamp.count) 0 (desk work.new memory.new marks.new stamp.count) threads result }
     ensures lighter { loads (source script.now) work.new threads ≤ loads (source script.now) work.old threads }
 {
@@ -105,7 +105,7 @@ fn run_stretches(
     first: Stamp,
 ) -> Result<(), Clash>
     requires some { SomeInTurn (source script.now) threads (desk work.old memory.old marks.old first.count) 0 }
-    requires words { 528 * threads ≤ length work.old }
+    requires words { 1024 * threads ≤ length work.old }
     ensures { MatchResult result (λ _. CameToEnd (source script.now) threads (desk work.old memory.old marks.old first.count) work.new memory.new) (CameToClash (source script.now) threads (desk work.old memory.old marks.old first.count) 0) }
 {
     let mut stamp = first;
@@ -128,7 +128,7 @@ pub fn run_in_turn(
     marks: &mut [u32],
 ) -> Result<(), Clash>
     requires text { SomeText (source script.now) }
-    requires words { 528 * threads ≤ length work.old }
+    requires words { 1024 * threads ≤ length work.old }
     requires room { ledger_words (length memory.old) ≤ length marks.old }
     ensures { MatchResult result (λ _. RunsToEnd (source script.now) threads turns memory.old work.new memory.new) (RunsToClash (source script.now) threads turns memory.old) }
 {

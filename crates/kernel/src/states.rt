@@ -1,7 +1,7 @@
 // What each thread is at, as a number for each: it goes (0), waits (1), has ended (2) or is out of turns (3).
 ghost use Rattle.std.specs.Prelude.{◌≡◌, ◌*◌, ◌<◌, ◌≤◌, length, slice_set};
 ghost use Rattle.machine.specs.Words.{status_word};
-ghost use Rattle.kernel.specs.Whole.{Written};
+ghost use Rattle.kernel.specs.Ran.{Written};
 
 use machine::all::status_of;
 use machine::thread::Status;
@@ -27,7 +27,7 @@ fn write_state(states: &mut [u8], thread: ThreadId, status: Status)
 
 // The numbers of the threads, in the first places.
 pub fn write_states(work: &[u32], threads: u32, states: &mut [u8])
-    requires words { 528 * threads ≤ length work.now }
+    requires words { 1024 * threads ≤ length work.now }
     requires places { threads ≤ length states.old }
     ensures { Written work.now threads states.old states.new }
 {

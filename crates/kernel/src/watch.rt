@@ -1,6 +1,7 @@
 // What is told of an order so far: touches are noted until two threads have clashed.
 ghost use Rattle.std.specs.Prelude.{◌≡◌, ◌+◌, ◌*◌, ◌<◌, length};
 ghost use Rattle.machine.specs.Rules.{how, touches};
+ghost use Rattle.ledger.specs.Ways.{way};
 ghost use Rattle.ledger.specs.Places.{ledger};
 ghost use Rattle.ledger.specs.Promises.{NotePost};
 ghost use Rattle.kernel.specs.Watching.{Within, touching, resuming, Watched, has_clashed};
@@ -14,6 +15,16 @@ use model::{Place, ThreadId};
 pub enum Watch {
     Quiet(Stamp),
     Clashed,
+}
+
+fn way_of(access: Access) -> Way
+    ensures { way result ≡ how access }
+{
+    match access {
+        Access::Reading => Way::Read,
+        Access::Changing(Change::Write) => Way::Write,
+        Access::Changing(Change::Add) => Way::Add,
+    }
 }
 
 // Notes a touch in the marks. Each way of touching has a call of its own, so that it is compiled for that way alone.
@@ -46,7 +57,7 @@ impl Watch {
         let Touched::At(place, access) = touched else {
             return self;
         };
-        match note_touch(marks, stamp, thread, place, access) {
+        match note(marks, stamp, thread, place, way_of(access)) {
             Noted::Fine => self,
             Noted::Clash(_) => Watch::Clashed,
         }

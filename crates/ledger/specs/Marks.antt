@@ -47,10 +47,13 @@ goes_with m k h = not (has m k) || together k h
 abbrev pub admits : Mark → Access → Bool
 admits m h = goes_with m reading h && (goes_with m (changing write) h && goes_with m (changing add) h)
 
--- .. in this stretch: the mark after thread i has touched the place once more, in way h; nothing where that is a clash
+-- The mark after thread i has touched the place in way h, in the stretch `now`; nothing where that is a clash.
+abbrev pub noted : Mark → ℕ → ℕ → Access → Option Mark
+noted m now i h =
+    cond (m.stamp == now)
+    (cond (not m.shared && m.first.0 == i) (Some (flagged m h)) (cond (admits m h) (Some (shared_mark m)) None))
+    (Some (fresh now i h))
+
+-- .. where the mark is of this stretch: after one more touch
 abbrev pub again : Mark → ℕ → Access → Option Mark
 again m i h = cond (not m.shared && m.first.0 == i) (Some (flagged m h)) (cond (admits m h) (Some (shared_mark m)) None)
-
--- .. in the stretch `now`
-abbrev pub noted : Mark → ℕ → ℕ → Access → Option Mark
-noted m now i h = cond (m.stamp == now) (again m i h) (Some (fresh now i h))

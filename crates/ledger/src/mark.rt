@@ -1,7 +1,7 @@
 // The mark of a place: who touched it first in a stretch, in which ways, and whether others did too.
 ghost use Rattle.std.specs.Prelude.{◌≡◌, ◌^◌, ◌<◌, true, false, IfSome, ◌≢◌};
 ghost use Rattle.ledger.specs.Ways.{way};
-ghost use Rattle.ledger.specs.Marks.{tag, untag, has, flagged, admits, fresh, shared_mark, again};
+ghost use Rattle.ledger.specs.Marks.{tag, untag, has, flagged, admits, fresh, shared_mark, again, noted};
 
 use crate::access::Access;
 use model::ThreadId;
@@ -91,7 +91,7 @@ impl Mark {
         ensures old { result ≡ true → self.stamp ≢ now }
         ensures current { result ≡ false → self.stamp ≡ now }
     {
-        self.stamp != now
+        now != self.stamp
     }
 
     // The mark of this stretch after one more touch, or nothing where that clashes with a touch by another thread.
@@ -108,6 +108,18 @@ impl Mark {
             })
         } else {
             None
+        }
+    }
+
+    // The mark after one more touch, or nothing where that clashes with a touch by another thread.
+    pub fn noted(self, now: u32, thread: ThreadId, how: Access) -> Option<Mark>
+        ensures value { result ≡ noted self now thread.0 (way how) }
+        ensures stamp { IfSome result (λ m. m.stamp ≡ now) }
+    {
+        if self.stamp != now {
+            Some(Mark::fresh(now, thread, how))
+        } else {
+            self.again(thread, how)
         }
     }
 }

@@ -15,19 +15,19 @@ use Rattle.machine.proofs.Parts.{nth_within, part_put_same, part_put_other}
 use Rattle.machine.proofs.Texts.{decoded_stands}
 
 -- words that are all 0 hold a thread with nothing to do
-cleared : (s : Source) → s.variables ≤ 256 → length s.rows ≤ 65536 → Held s (replicate 528 0) [] (replicate s.variables 0) 0 going
+cleared : (s : Source) → s.variables ≤ 256 → length s.rows ≤ 65536 → Held s (replicate 1024 0) [] (replicate s.variables 0) 0 going
 cleared s few short = record {
-  size = length-replicate {A = ℕ} 528 0;
+  size = length-replicate {A = ℕ} 1024 0;
   few = few;
   short = short;
-  vars_are = sym (take-replicate s.variables 528 0 (omega arith));
+  vars_are = sym (take-replicate s.variables 1024 0 (omega arith));
   left_is = refl;
   status_is = refl;
   height_is = refl;
   stack = tt;
 }
 
-pub begun : {w : List ℕ} {turns : ℕ} → w ≡ pushed (set (replicate 528 0) 256 turns) 1 → Begun w turns
+pub begun : {w : List ℕ} {turns : ℕ} → w ≡ pushed (set (replicate 1024 0) 256 turns) 1 → Begun w turns
 begun {w} {turns} is = record {
   size = ap length is ∙ simp length-set;
   each = λ s body text. subst (λ w. Held s w (body ∷ []) (replicate s.variables 0) turns going) (sym is)
@@ -35,9 +35,9 @@ begun {w} {turns} is = record {
 }
 
 -- one thread more, in words that were lent
-pub begun_more : (work ys : List ℕ) (j size turns : ℕ) → size ≡ 528 → 528 * j + 528 ≤ length work → ((k : ℕ) → k < j → Begun (part k work) turns) → Begun ys turns → (k : ℕ) → k < j + 1 → Begun (part k (put_mid (528 * j) size work ys)) turns
+pub begun_more : (work ys : List ℕ) (j size turns : ℕ) → size ≡ 1024 → 1024 * j + 1024 ≤ length work → ((k : ℕ) → k < j → Begun (part k work) turns) → Begun ys turns → (k : ℕ) → k < j + 1 → Begun (part k (put_mid (1024 * j) size work ys)) turns
 begun_more work ys j size turns size_is room before new =
-    below_more (λ k. Begun (part k (put_mid (528 * j) size work ys)) turns) j
+    below_more (λ k. Begun (part k (put_mid (1024 * j) size work ys)) turns) j
     (λ k l. subst (λ w. Begun w turns) (sym (part_put_other j size work ys size_is room new.size k (λ e. omega arith))) (before k l))
     (subst (λ w. Begun w turns) (sym (part_put_same j size work ys size_is room new.size)) new)
 
@@ -46,7 +46,7 @@ nth_replicate zero j x y is = let z : ◌≡◌ {A = ℕ} 0 1 = cc in absurd (om
 nth_replicate (suc n) zero x y is = cc
 nth_replicate (suc n) (suc j) x y is = nth_replicate n j x y is
 
-pub all_begun : (work : List ℕ) (j n turns : ℕ) → n ≤ j → 528 * n ≤ length work → ((k : ℕ) → k < j → Begun (part k work) turns) → AllBegun work n turns
+pub all_begun : (work : List ℕ) (j n turns : ℕ) → n ≤ j → 1024 * n ≤ length work → ((k : ℕ) → k < j → Begun (part k work) turns) → AllBegun work n turns
 all_begun work j n turns l room each = record {
   each = λ s body text. record {
     room = omega (arith, length-replicate n (fresh s body turns));

@@ -31,7 +31,7 @@ other : (w : List ℕ) (i j v : ℕ) → (j ≡ i → ⊥) → get_or w j 0 ≡ 
 other w i j v apart = sym (get_or-set_other w i j v 0 apart)
 
 -- the stack stands on its own words alone
-stack_same : (s : Source) (w w' : List ℕ) (todo : List Stmt) → ((i : ℕ) → i < length todo → get_or w (264 + i) 0 ≡ get_or w' (264 + i) 0) → Stack s w todo → Stack s w' todo
+stack_same : (s : Source) (w w' : List ℕ) (todo : List Stmt) → ((i : ℕ) → i < length todo → get_or w (512 + i) 0 ≡ get_or w' (512 + i) 0) → Stack s w todo → Stack s w' todo
 stack_same s w w' [] same h = tt
 stack_same s w w' (a ∷ rest) same h = (subst (λ p. Stands s p a) (same (length rest) (omega arith)) h.0, h.1, stack_same s w w' rest (λ i l. same i (omega arith)) h.2)
 
@@ -40,8 +40,8 @@ stack_low s w [] h = omega arith
 stack_low s w (a ∷ rest) h = omega (arith, h.1, depth_some a)
 
 -- a word below the stack is not part of it
-set_low : (s : Source) (w : List ℕ) (todo : List Stmt) (i v : ℕ) → i < 264 → Stack s w todo → Stack s (set w i v) todo
-set_low s w todo i v l = stack_same s w (set w i v) todo (λ j m. other w i (264 + j) v (λ e. omega arith))
+set_low : (s : Source) (w : List ℕ) (todo : List Stmt) (i v : ℕ) → i < 512 → Stack s w todo → Stack s (set w i v) todo
+set_low s w todo i v l = stack_same s w (set w i v) todo (λ j m. other w i (512 + j) v (λ e. omega arith))
 
 module _ {s : Source} {w vars : List ℕ} {left : ℕ} {status : Status} where
   pub height_low : {todo : List Stmt} → Held s w todo vars left status → get_or w 258 0 ≤ 256
@@ -105,11 +105,11 @@ module _ {s : Source} {w vars : List ℕ} {left : ℕ} {status : Status} where
   pub pushes : {todo : List Stmt} (p : ℕ) (a : Stmt) → Stands s p a → stmt_depth a + length todo ≤ 256 → Held s w todo vars left status → Held s (pushed w p) (a ∷ todo) vars left status
   pushes {todo} p a stands deep h =
       let height = get_or w 258 0 in
-      let at = 264 + height in
+      let at = 512 + height in
       let u = set w at p in
       let v = height + 1 in
       let low : height < 256 = omega (arith, h.height_is, depth_some a) in
-      let size : length u ≡ 528 = length-set w at p ∙ h.size in
+      let size : length u ≡ 1024 = length-set w at p ∙ h.size in
       record {
         size = length-set u 258 v ∙ size;
         few = h.few;
@@ -119,8 +119,8 @@ module _ {s : Source} {w vars : List ℕ} {left : ℕ} {status : Status} where
         status_is = h.status_is ∙ other w at 257 p (λ e. omega arith) ∙ other u 258 257 v (λ e. omega arith);
         height_is = omega (arith, h.height_is, get_or-set_same u 258 v 0 (omega arith));
         stack = (
-          subst (λ p. Stands s p a) (sym (get_or-set_same w at p 0 (omega (arith, h.size))) ∙ other u 258 at v (λ e. omega arith) ∙ ap (λ i. get_or (pushed w p) (264 + i) 0) (sym h.height_is)) stands,
+          subst (λ p. Stands s p a) (sym (get_or-set_same w at p 0 (omega (arith, h.size))) ∙ other u 258 at v (λ e. omega arith) ∙ ap (λ i. get_or (pushed w p) (512 + i) 0) (sym h.height_is)) stands,
           deep,
-          stack_same s w (pushed w p) todo (λ j l. other w at (264 + j) p (λ e. omega (arith, h.height_is)) ∙ other u 258 (264 + j) v (λ e. omega arith)) h.stack,
+          stack_same s w (pushed w p) todo (λ j l. other w at (512 + j) p (λ e. omega (arith, h.height_is)) ∙ other u 258 (512 + j) v (λ e. omega arith)) h.stack,
         );
       }

@@ -9,4 +9,5 @@ pub mod Begin
 pub mod Loads
 pub mod Moved
 pub mod Together
+pub mod OnePass
 pub mod Running

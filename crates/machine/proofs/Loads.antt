@@ -34,7 +34,7 @@ weight todo left status = left * 131073 + 2 * lengths todo + status_load (status
 
 stack_weighs : (s : Source) (w : List ℕ) (todo : List Stmt) → Stack s w todo → stack_load s w (length todo) ≡ lengths todo
 stack_weighs s w [] h = refl
-stack_weighs s w (a ∷ rest) h = omega (arith, (spanned s (get_or w (264 + length rest) 0) a h.0).0, stack_weighs s w rest h.2)
+stack_weighs s w (a ∷ rest) h = omega (arith, (spanned s (get_or w (512 + length rest) 0) a h.0).0, stack_weighs s w rest h.2)
 
 weighs : {s : Source} {w vars : List ℕ} {todo : List Stmt} {left : ℕ} {status : Status} → Held s w todo vars left status → load s w ≡ weight todo left status
 weighs {s} {w} {vars} {todo} h = omega (arith, h.left_is, ap (stack_load s w) h.height_is, stack_weighs s w todo h.stack, ap status_load h.status_is)
@@ -72,7 +72,7 @@ step_lighter i n words t (wait ∷ ss) m short = omega arith
 
 held_short : {s : Source} {w vars : List ℕ} {left : ℕ} {status : Status} (todo : List Stmt) → Held s w todo vars left status → Short todo
 held_short [] h = tt
-held_short {s} {w} (a ∷ rest) h = omega (arith, (spanned s (get_or w (264 + length rest) 0) a h.stack.0).1, h.short)
+held_short {s} {w} (a ∷ rest) h = omega (arith, (spanned s (get_or w (512 + length rest) 0) a h.stack.0).1, h.short)
 
 pub load_falls : {s : Source} {i n : ℕ} {w w' m m' : List ℕ} {r : Touched} → CanStep s w → Stepped s i n w w' m m' r → load s w' < load s w
 load_falls {s} {i} {n} {w} {w'} {m} can step =
@@ -80,17 +80,17 @@ load_falls {s} {i} {n} {w} {w'} {m} can step =
     omega (arith, weighs can.holds, weighs (step.each t can.holds can.goes).holds, step_lighter i n (length m) t t.todo m (held_short t.todo can.holds), ap (λ st. status_load (status_code st)) can.goes)
 
 -- the words of thread i were lent, and given back as ys
-module _ (s : Source) (i size : ℕ) (work ys : List ℕ) (size_is : size ≡ 528) (room : 528 * i + 528 ≤ length work) (same : length ys ≡ 528) where
-  loads_same : (n : ℕ) → n ≤ i → loads s (put_mid (528 * i) size work ys) n ≡ loads s work n
+module _ (s : Source) (i size : ℕ) (work ys : List ℕ) (size_is : size ≡ 1024) (room : 1024 * i + 1024 ≤ length work) (same : length ys ≡ 1024) where
+  loads_same : (n : ℕ) → n ≤ i → loads s (put_mid (1024 * i) size work ys) n ≡ loads s work n
   loads_same zero l = refl
   loads_same (suc n) l = ap₂ (λ x y. x + y) (ap (load s) (part_put_other i size work ys size_is room same n (λ e. omega arith))) (loads_same n (omega arith))
 
-  pub loads_fall : (n : ℕ) → i < n → load s ys < load s (part i work) → loads s (put_mid (528 * i) size work ys) n < loads s work n
+  pub loads_fall : (n : ℕ) → i < n → load s ys < load s (part i work) → loads s (put_mid (1024 * i) size work ys) n < loads s work n
   loads_fall zero l less = absurd (omega arith)
   loads_fall (suc n) l less =
       ⊎_elim
       (λ last.
-      let here = ap (load s) (ap (λ j. part j (put_mid (528 * i) size work ys)) last ∙ part_put_same i size work ys size_is room same) in
+      let here = ap (load s) (ap (λ j. part j (put_mid (1024 * i) size work ys)) last ∙ part_put_same i size work ys size_is room same) in
       omega (arith, here, ap (λ j. load s (part j work)) last, loads_same n (omega arith)))
       (λ apart. omega (arith, ap (load s) (part_put_other i size work ys size_is room same n apart), loads_fall n (omega arith) less))
       (cases_eq n i)
@@ -98,14 +98,14 @@ module _ (s : Source) (i size : ℕ) (work ys : List ℕ) (size_is : size ≡ 52
 -- a thread that waited goes on
 stack_load_set : (s : Source) (w : List ℕ) (v i : ℕ) → stack_load s (set w 257 v) i ≡ stack_load s w i
 stack_load_set s w v zero = refl
-stack_load_set s w v (suc i) = ap₂ (λ p l. (end s p - p) + l) (get_or-set_other w 257 (264 + i) v 0 (λ e. omega arith)) (stack_load_set s w v i)
+stack_load_set s w v (suc i) = ap₂ (λ p l. (end s p - p) + l) (get_or-set_other w 257 (512 + i) v 0 (λ e. omega arith)) (stack_load_set s w v i)
 
 status_lighter : (x : ℕ) → status_load (released_word x) + bit (eqb x 1) ≤ status_load x
 status_lighter zero = omega arith
 status_lighter (suc zero) = omega arith
 status_lighter (suc (suc x)) = omega (arith, ap (λ b. status_load (cond b 0 (suc (suc x))) + bit b) (ne_eqb (suc (suc x)) 1 (λ e. omega arith)))
 
-pub set_lighter : (s : Source) (w : List ℕ) → length w ≡ 528 → load s (set w 257 (released_word (get_or w 257 0))) + bit (eqb (get_or w 257 0) 1) ≤ load s w
+pub set_lighter : (s : Source) (w : List ℕ) → length w ≡ 1024 → load s (set w 257 (released_word (get_or w 257 0))) + bit (eqb (get_or w 257 0) 1) ≤ load s w
 set_lighter s w size =
     let v = released_word (get_or w 257 0) in
     omega (

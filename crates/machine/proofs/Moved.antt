@@ -17,28 +17,28 @@ use Rattle.machine.proofs.Loads.{load_falls, loads_fall}
 use Rattle.machine.proofs.Parts.{nth_within, part_put_same, part_put_other, length_put}
 
 -- other words for thread i, which then is u
-put_held : (s : Source) (work ys : List ℕ) (ts : List Thread) (i size : ℕ) (t u : Thread) → size ≡ 528 → AllHeld s work ts → slice_get ts i ≡ Some t → Holds s ys u → AllHeld s (put_mid (528 * i) size work ys) (set ts i u)
+put_held : (s : Source) (work ys : List ℕ) (ts : List Thread) (i size : ℕ) (t u : Thread) → size ≡ 1024 → AllHeld s work ts → slice_get ts i ≡ Some t → Holds s ys u → AllHeld s (put_mid (1024 * i) size work ys) (set ts i u)
 put_held s work ys ts i size t u size_is h is new =
-    let room : 528 * i + 528 ≤ length work = omega (arith, h.room, nth_within ts i t is) in
+    let room : 1024 * i + 1024 ≤ length work = omega (arith, h.room, nth_within ts i t is) in
     record {
       room = omega (arith, h.room, length-set ts i u, length_put i size work ys size_is room new.size);
       each = λ j v found.
           ⊎_elim
           (λ same.
           let is_u : u ≡ v = let e = nth_set_same ts i t u is in let f = subst (λ j. slice_get (set ts i u) j ≡ Some v) same found in cc in
-          subst (λ j. Holds s (part j (put_mid (528 * i) size work ys)) v) (sym same) (subst₂ (λ w v. Holds s w v) (sym (part_put_same i size work ys size_is room new.size)) is_u new))
+          subst (λ j. Holds s (part j (put_mid (1024 * i) size work ys)) v) (sym same) (subst₂ (λ w v. Holds s w v) (sym (part_put_same i size work ys size_is room new.size)) is_u new))
           (λ apart. subst (λ w. Holds s w v) (sym (part_put_other i size work ys size_is room new.size j apart)) (h.each j v (sym (nth_set_other ts i j u (λ e. apart (sym e))) ∙ found)))
           (cases_eq j i);
     }
 
 module _ {s : Source} {work m : List ℕ} {i n : ℕ} where
-  pub room_of : CanStepOf s work m i n → 528 * i + 528 ≤ length work
+  pub room_of : CanStepOf s work m i n → 1024 * i + 1024 ≤ length work
   room_of c = omega (arith, c.held.all.room, nth_within c.state.threads i c.thread c.is)
 
   pub can_step : {w : List ℕ} → w ≡ part i work → CanStepOf s work m i n → CanStep s w
   can_step same c = record { thread = c.thread; holds = subst (λ w. Holds s w c.thread) (sym same) (c.held.all.each i c.thread c.is); goes = c.goes }
 
-  pub stepped_of : {w w' m' : List ℕ} {r : Touched} (size : ℕ) → size ≡ 528 → w ≡ part i work → CanStepOf s work m i n → Stepped s i n w w' m m' r → SteppedOf s i n work (put_mid (528 * i) size work w') m m' r
+  pub stepped_of : {w w' m' : List ℕ} {r : Touched} (size : ℕ) → size ≡ 1024 → w ≡ part i work → CanStepOf s work m i n → Stepped s i n w w' m m' r → SteppedOf s i n work (put_mid (1024 * i) size work w') m m' r
   stepped_of {w} {w'} {m'} {r} size size_is same can step = record {
     each = λ st t held is g.
         let here : Stepped s i (length st.threads) (part i work) w' st.memory m' r = subst (λ n. Stepped s i n (part i work) w' st.memory m' r) (sym held.count) (subst₂ (λ w m. Stepped s i n w w' m m' r) same held.memory_is step) in

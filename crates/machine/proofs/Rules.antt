@@ -127,7 +127,7 @@ module _ (s : Source) (who : Who) (w w' m m' : List ℕ) (r : Touched) (t : Thre
 
 -- what the words of a thread that can take a step are known to be
 module _ {s : Source} {w : List ℕ} (can : CanStep s w) where
-  pub sized : length w ≡ 528
+  pub sized : length w ≡ 1024
   sized = can.holds.size
 
   pub height_small : get_or w 258 0 ≤ 256

@@ -3,17 +3,19 @@ use Rattle.std.proofs.Common.{◌≡◌, ℕ, ◌<◌, Bool, true, false, List, 
 use Rattle.std.specs.List.{slice_get}
 use Rattle.std.proofs.lemmas.List.{length-replicate}
 use Rattle.model.specs.Kernel.{Stmt, Kernel}
-use Rattle.model.specs.Steps.{going, Thread, State, resumed, begin}
+use Rattle.model.specs.Steps.{going, Thread, State, all_released, resumed, begin}
 use Rattle.machine.specs.declared.thread.Status.{Status}
 use Rattle.machine.specs.declared.thread.Status.TheVariants.{Going, Waiting, Ended, OutOfTurns}
 use Rattle.rows.specs.declared.decoder.Text.{Text}
 use Rattle.rows.specs.Decoded.{Decoded}
+use Rattle.machine.specs.declared.release.Released.{Released}
+use Rattle.machine.specs.declared.release.Released.TheVariants.{Nobody, Waiting as Released-as-Waiting, End}
 use Rattle.machine.specs.declared.touched.Touched.{Touched}
 use Rattle.machine.specs.Stands.{Source}
 use Rattle.machine.specs.Words.{status_as}
 use Rattle.machine.specs.All.{StatusOf, AllHeld}
 use Rattle.machine.specs.Begins.{TextStands, fresh, AllBegun}
-use Rattle.machine.specs.Together.{ResumedAs, Resumed}
+use Rattle.machine.specs.Together.{ReleasedAs, Release, ResumedAs, Resumed}
 use Rattle.machine.specs.Stepped.{StateHeld, CanStepOf, SteppedOf, Running}
 use Rattle.machine.proofs.Begin.{decoded_text}
 use Rattle.machine.proofs.Parts.{nth_some}
@@ -58,13 +60,28 @@ module _ {s : Source} {work m : List ℕ} {i n : ℕ} {r : Status} (status : Sta
     pub running_on : {work' m' : List ℕ} {x : Touched} → SteppedOf s i n work work' m m' x → Running s work' m' n
     running_on step = record { state = _; held = (step.each run.state one.0 run.held one.1 (is_going goes run.state one.0 run.held one.1)).held }
 
--- .. and where all that waited have gone on
+-- .. and where all that waited have gone on, or nothing has changed
+module _ {s : Source} {work work' m : List ℕ} {n : ℕ} (run : Running s work m n) where
+  go_on : AllHeld s work' (all_released run.state.threads) → Running s work' m n
+  go_on held = record {
+    state = resumed run.state;
+    held = record { all = held; memory_is = run.held.memory_is; count = length_all_released run.state.threads ∙ run.held.count };
+  }
+
+  stays : work' ≡ work → Running s work' m n
+  stays is = subst (λ w. Running s w m n) (sym is) run
+
+pub running_released : {s : Source} {work work' m : List ℕ} {n : ℕ} {r : Released} → Release work work' n r → Running s work m n → Running s work' m n
+running_released {s} {work} {work'} {m} {n} {r} release run = go r (release.each s run.state.threads run.held.count run.held.all)
+  where
+    go : (r : Released) → ReleasedAs s work work' run.state.threads r → Running s work' m n
+    go Nobody h = stays run h.1
+    go Released-as-Waiting h = go_on run h.2
+    go End h = stays run h.2
+
 pub running_resumed : {s : Source} {work work' m : List ℕ} {n : ℕ} {r : Bool} → Resumed work work' n r → Running s work m n → Running s work' m n
 running_resumed {s} {work} {work'} {m} {n} {r} resume run = go r (resume.each s run.state.threads run.held.count run.held.all)
   where
     go : (r : Bool) → ResumedAs s work work' run.state.threads r → Running s work' m n
-    go true h = record {
-      state = resumed run.state;
-      held = record { all = h.1; memory_is = run.held.memory_is; count = length_all_released run.state.threads ∙ run.held.count };
-    }
-    go false h = subst (λ w. Running s w m n) (sym h.1) run
+    go true h = go_on run h.1
+    go false h = stays run h.1

@@ -8,7 +8,7 @@ use Rattle.machine.specs.Words.{status_as, Holds, part}
 
 -- the words of each thread hold it
 pub record AllHeld (s : Source) (work : List ℕ) (ts : List Thread) : Type 0 where
-  pub room : 528 * length ts ≤ length work
+  pub room : 1024 * length ts ≤ length work
   pub each : (j : ℕ) (t : Thread) → slice_get ts j ≡ Some t → Holds s (part j work) t
 
 -- the status of thread j, whatever threads the words hold

@@ -32,7 +32,7 @@ pub record Scripted (rows ends : List ℕ) (variables : ℕ) (r : Script) : Type
 
 -- the words hold a thread that begins, whatever text it runs
 pub record Begun (w : List ℕ) (turns : ℕ) : Type 0 where
-  pub size : length w ≡ 528
+  pub size : length w ≡ 1024
   pub each : (s : Source) (body : Stmt) → TextStands s body → Held s w (body ∷ []) (replicate s.variables 0) turns going
 
 -- a thread that begins, as in the definitions

@@ -7,7 +7,7 @@ use Rattle.machine.specs.Words.{part}
 -- the lengths of the statements on the stack
 abbrev pub stack_load : Source → List ℕ → ℕ → ℕ
 stack_load s w zero = 0
-stack_load s w (suc i) = (end s (slice_index w (264 + i)) - slice_index w (264 + i)) + stack_load s w i
+stack_load s w (suc i) = (end s (slice_index w (512 + i)) - slice_index w (512 + i)) + stack_load s w i
 
 -- a thread that waits has still to go on
 abbrev pub status_load : ℕ → ℕ

@@ -36,7 +36,7 @@ pub record SomeExpr (s : Source) (p : ℕ) : Type 0 where
 
 -- the words of a thread that has something to do, which stands at p
 pub record Busy (s : Source) (w : List ℕ) (p : ℕ) : Type 0 where
-  pub size : length w ≡ 528
+  pub size : length w ≡ 1024
   pub few : s.variables ≤ 256
   pub filled : 0 < slice_index w 258
   pub low : slice_index_or w 258 0 ≤ 256

@@ -13,13 +13,7 @@ use Rattle.machine.specs.Stands.{Source, ExprStands, expression_at}
 abbrev pub value_in : Seen → Expr → ℕ
 value_in v e = value v.me v.all v.variables.now e
 
--- some expression stands at p, and the thread has the text's variables
-pub record ExprHere (s : Source) (v : Seen) (p : ℕ) : Type 0 where
-  pub expr : Expr
-  pub stands : ExprStands s p expr
-  pub variables : length v.variables.now ≡ s.variables
-
--- .. at most d deep
+-- some expression stands at p, at most d deep, and the thread has the text's variables
 pub record ExprAt (s : Source) (v : Seen) (p d : ℕ) : Type 0 where
   pub expr : Expr
   pub stands : ExprStands s p expr
@@ -34,9 +28,16 @@ pub record OperationAt (s : Source) (v : Seen) (o : Op) (p d : ℕ) : Type 0 whe
   pub deep : expr_depth (op o first second) ≤ d
   pub variables : length v.variables.now ≡ s.variables
 
+-- .. whichever operation it is
 pub record SomeOperation (s : Source) (v : Seen) (p d : ℕ) : Type 0 where
   pub op : Op
   pub at : OperationAt s v op p d
+
+-- some expression stands at p, however deep
+pub record ExprHere (s : Source) (v : Seen) (p : ℕ) : Type 0 where
+  pub expr : Expr
+  pub stands : ExprStands s p expr
+  pub variables : length v.variables.now ≡ s.variables
 
 -- x is the value of whatever stands at p
 pub record Valued (s : Source) (v : Seen) (p x : ℕ) : Type 0 where

@@ -1,4 +1,4 @@
--- How a thread lies in its 528 words.
+-- How a thread lies in its 1,024 words.
 use Rattle.std.specs.Prelude.{◌≡◌, ℕ, ◌+◌, ◌-◌, ◌*◌, ◌≤◌, List, [], ◌∷◌, length, take, drop, slice_index, slice_index_or, slice_set}
 use Rattle.model.specs.Kernel.{Stmt}
 use Rattle.model.specs.Steps.{Status as Model, going, waiting, ended, out_of_turns, Thread}
@@ -31,23 +31,23 @@ status_code out_of_turns = 3
 
 -- the stack: the next position, without it, and with another one above it
 abbrev pub top_of : List ℕ → ℕ
-top_of w = slice_index w (264 + slice_index w 258 - 1)
+top_of w = slice_index w (512 + slice_index w 258 - 1)
 
 abbrev pub popped : List ℕ → List ℕ
 popped w = slice_set w 258 (slice_index w 258 - 1)
 
 abbrev pub pushed : List ℕ → ℕ → List ℕ
-pushed w p = slice_set (slice_set w (264 + slice_index w 258) p) 258 (slice_index w 258 + 1)
+pushed w p = slice_set (slice_set w (512 + slice_index w 258) p) 258 (slice_index w 258 + 1)
 
--- From 264 on stand the positions of the statements, the next one last. Each is shallow enough for what
+-- From 512 on stand the positions of the statements, the next one last. Each is shallow enough for what
 -- lies below it, so that the stack stays within 256 words.
 abbrev pub Stack : Source → List ℕ → List Stmt → Type 0
 Stack s w [] = Unit {0}
-Stack s w (a ∷ rest) = Stands s (slice_index w (264 + length rest)) a × (stmt_depth a + length rest ≤ 256) × Stack s w rest
+Stack s w (a ∷ rest) = Stands s (slice_index w (512 + length rest)) a × (stmt_depth a + length rest ≤ 256) × Stack s w rest
 
 -- The words hold a thread's statements, variables, turns and status. What it touched is not kept here.
 pub record Held (s : Source) (w : List ℕ) (todo : List Stmt) (vars : List ℕ) (left : ℕ) (status : Model) : Type 0 where
-  pub size : length w ≡ 528
+  pub size : length w ≡ 1024
   pub few : s.variables ≤ 256
   pub short : length s.rows ≤ 65536
   pub vars_are : vars ≡ take s.variables w
@@ -61,4 +61,4 @@ Holds s w t = Held s w t.todo t.vars t.left t.status
 
 -- the words of thread j, among those of all
 abbrev pub part : ℕ → List ℕ → List ℕ
-part j work = take 528 (drop (528 * j) work)
+part j work = take 1024 (drop (1024 * j) work)

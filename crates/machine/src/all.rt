@@ -13,7 +13,7 @@ use model::ThreadId;
 
 // So many threads that have their turns, and the text's body to do.
 pub fn begin_all(work: &mut [u32], threads: u32, turns: u32)
-    requires { 528 * threads ≤ length work.old }
+    requires { 1024 * threads ≤ length work.old }
     ensures { AllBegun work.new threads turns }
 {
     for j in 0..threads as usize {
@@ -23,7 +23,7 @@ pub fn begin_all(work: &mut [u32], threads: u32, turns: u32)
 
 // What thread `me` is at.
 pub fn status_of(work: &[u32], me: ThreadId) -> Status
-    requires { 528 * me.0 + 528 ≤ length work.now }
+    requires { 1024 * me.0 + 1024 ≤ length work.now }
     ensures { StatusOf work.now me.0 result }
 {
     let from = WORDS * me.0 as usize;

@@ -15,7 +15,7 @@ use rows::decoder::MOST_DEEP;
 
 // The value of the expression that stands there, to the thread whose words these are.
 fn value_of(script: &Script, words: &[u32], who: Who, at: usize) -> u32
-    requires size { length words.now ≡ 528 }
+    requires size { length words.now ≡ 1024 }
     requires few { script.now.variables ≤ 256 }
     requires stands { SomeExpr (source script.now) at }
     ensures { ValueOf (source script.now) words.now who at result }
@@ -33,13 +33,12 @@ fn value_of(script: &Script, words: &[u32], who: Who, at: usize) -> u32
 fn place_of(memory: &[u32], number: u32) -> Place
     ensures { result.0 ≡ place number (length memory.now) }
 {
-    let number = number as usize;
-    if number < memory.len() {
-        Place(number)
+    if (number as usize) < memory.len() {
+        Place(number as usize)
     } else if memory.is_empty() {
         Place(0)
     } else {
-        Place(number % memory.len())
+        Place(number as usize % memory.len())
     }
 }
 
@@ -156,7 +155,7 @@ pub fn turn(script: &Script, words: &mut [u32], who: Who, at: usize)
 }
 
 pub fn wait(words: &mut [u32])
-    requires size { length words.old ≡ 528 }
+    requires size { length words.old ≡ 1024 }
     requires filled { 0 < slice_index words.old 258 }
     ensures { words.new ≡ slice_set (popped words.old) 257 1 }
 {

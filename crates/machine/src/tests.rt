@@ -5,7 +5,8 @@ ghost use Rattle.machine.specs.Stands.{source};
 ghost use Rattle.machine.specs.Stepped.{Running};
 
 use crate::all::{advance, begin_all, status_of};
-use crate::release::resume_all;
+use crate::release::release_all;
+use crate::resume::resume_all;
 use crate::script::Script;
 use crate::thread::Status;
 use model::ThreadId;
@@ -31,12 +32,12 @@ fn go_twice<'a>(
 ) -> (Status, Status)
     requires { TextOf rows.now ends.now variables }
 {
-    let mut work = [0; 1056];
+    let mut work = [0; 2048];
     begin_all(&mut work, 2, turns);
     let script = Script::new(rows, ends, variables);
     go(&script, &mut work, memory, ThreadId(0), 2);
     go(&script, &mut work, memory, ThreadId(1), 2);
-    let _resumed = resume_all(&mut work, 2);
+    let _released = release_all(&mut work, 2);
     go(&script, &mut work, memory, ThreadId(0), 2);
     go(&script, &mut work, memory, ThreadId(1), 2);
     (status_of(&work, ThreadId(0)), status_of(&work, ThreadId(1)))
@@ -84,5 +85,44 @@ fn no_turns() -> Result<(), Fail> {
     else {
         return Err(Fail::new("both threads are out of turns"));
     };
+    Ok(())
+}
+
+// Two threads go on until both wait or stop, twice, and after each time all that wait go on in one pass: whether any
+// waited.
+fn resume_twice<'a>(
+    rows: &'a [u32],
+    ends: &'a [u32],
+    variables: u32,
+    memory: &mut [u32],
+) -> (bool, bool)
+    requires { TextOf rows.now ends.now variables }
+{
+    let mut work = [0; 2048];
+    begin_all(&mut work, 2, 9);
+    let script = Script::new(rows, ends, variables);
+    go(&script, &mut work, memory, ThreadId(0), 2);
+    go(&script, &mut work, memory, ThreadId(1), 2);
+    let first = resume_all(&mut work, 2);
+    go(&script, &mut work, memory, ThreadId(0), 2);
+    go(&script, &mut work, memory, ThreadId(1), 2);
+    let second = resume_all(&mut work, 2);
+    (first, second)
+}
+
+// The threads of `sum` wait once.
+#[test]
+fn resumed(rt: HostRuntime) -> Result<(), Fail> {
+    let mut memory = [5, 7];
+    let mut ends = [0; 16];
+    let rows = [1, 1, 3, 0, 2, 1, 8, 5, 0, 0, 1, 0];
+    let Ok(text) = decode(&rows, &mut ends) else {
+        return Err(Fail::new("the rows are those of a text"));
+    };
+    let (first, second) = resume_twice(&rows, &ends, text.variables, &mut memory);
+    assert!(rt; first);
+    assert!(rt; !second);
+    assert!(rt; memory[0] == 17);
+    assert!(rt; memory[1] == 7);
     Ok(())
 }

@@ -1,5 +1,5 @@
 -- What an answer of the code says of what was read: the steps by which each exit meets its equation.
-use Rattle.std.proofs.Common.{◌≡◌, ℕ, List, ◌∷◌, Ok, Err, Result, refl, ap, ◌∙◌, subst₂, arith}
+use Rattle.std.proofs.Common.{◌≡◌, ℕ, List, ◌∷◌, Ok, Err, refl, ap, ◌∙◌, subst₂, arith}
 use Rattle.rows.specs.Heads.{Got, got, bad, then, answer, word_at}
 use Rattle.rows.specs.declared.refusals.Refusal.{Refusal}
 

@@ -1,6 +1,6 @@
 -- The reader reads exactly the texts: what it reads stands there, and what stands there it reads.
-use Rattle.std.proofs.Common.{◌≡◌, ℕ, zero, suc, ◌+◌, ◌<◌, ◌≤◌, max, Bool, true, ◌&&◌, List, ◌++◌, length, sym, refl, ap, ◌∙◌, subst, append_assoc, arith}
-use Rattle.model.specs.Kernel.{Expr, num, var, me, all, op, Change, write, add, Stmt, skip, seq, assign, read, update, if, while, wait}
+use Rattle.std.proofs.Common.{◌≡◌, ℕ, zero, suc, ◌<◌, ◌≤◌, Bool, true, List, ◌++◌, sym, refl, ap, ◌∙◌, append_assoc, arith}
+use Rattle.model.specs.Kernel.{Expr, num, var, me, all, op, write, add, Stmt, skip, seq, assign, read, update, if, while, wait}
 use Rattle.model.specs.Rows.{expr_depth, stmt_depth}
 use Rattle.rows.specs.declared.refusals.Refusal.{Refusal}
 use Rattle.rows.specs.declared.head.Expression.{Expression}
@@ -9,7 +9,7 @@ use Rattle.rows.specs.declared.head.Statement.{Statement}
 use Rattle.rows.specs.declared.head.Statement.TheVariants.{Skip, Seq, Assign, Read, Write, Increase, If, While, Wait}
 use Rattle.rows.specs.Heads.{Got, got, bad, then, expression_at, statement_at}
 use Rattle.rows.specs.Parts.{Many, Sort, many, both, exprs, stmts, expression_row, operands, expr_of, statement_row, inner_exprs, inner_stmts, Inner, inner, stmt_of}
-use Rattle.rows.specs.Reader.{Reader, pair, several, headed, too_deep, read_expr, read_stmt}
+use Rattle.rows.specs.Reader.{Reader, pair, several, headed, read_expr, read_stmt}
 use Rattle.rows.specs.Table.{behind}
 use Rattle.rows.proofs.Answered.{then_came, got_came, then_read}
 use Rattle.rows.proofs.Shapes.{Whole, expression_known, statement_known, expr_whole, stmt_whole}

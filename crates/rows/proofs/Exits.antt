@@ -10,7 +10,7 @@ use Rattle.rows.specs.Reader.{Reader, pair, several, headed, too_deep}
 use Rattle.rows.specs.Table.{behind}
 use Rattle.rows.specs.Told.{marked, Within, Told}
 use Rattle.rows.proofs.Answered.{then_read, then_bad}
-use Rattle.rows.proofs.Exact.{Sound, Stands}
+use Rattle.rows.proofs.Exact.{Sound}
 use Rattle.rows.proofs.HeadsExact.{Front}
 use Rattle.rows.proofs.Marks.{Beside, marked_append, head_marked}
 use Rattle.rows.proofs.Shapes.{Whole}

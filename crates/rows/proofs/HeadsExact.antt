@@ -1,5 +1,5 @@
 -- Heads are read exactly: what is read stands at the front, and what stands there is read.
-use Rattle.std.proofs.Common.{◌≡◌, ℕ, zero, suc, ◌+◌, Bool, true, false, cond, ltb, List, [], ◌∷◌, ◌++◌, length, sym, refl, ap, ◌∙◌, subst, arith}
+use Rattle.std.proofs.Common.{◌≡◌, ℕ, zero, suc, ◌+◌, Bool, true, cond, ltb, List, [], ◌∷◌, ◌++◌, refl, ap, arith}
 use Rattle.model.specs.declared.Op.{Op}
 use Rattle.model.specs.declared.Op.TheVariants.{Add, Sub, Mul, Div, Rem, Less, Same}
 use Rattle.model.specs.Rows.{op_code}
@@ -8,7 +8,7 @@ use Rattle.rows.specs.declared.head.Expression.{Expression}
 use Rattle.rows.specs.declared.head.Expression.TheVariants.{Number, Variable, Me, All, Operation}
 use Rattle.rows.specs.declared.head.Statement.{Statement}
 use Rattle.rows.specs.declared.head.Statement.TheVariants.{Skip, Seq, Assign, Read, Write, Increase, If, While, Wait}
-use Rattle.rows.specs.Heads.{Got, got, bad, then, refuse, operation_named, variable_of, expression_at, expression_of, statement_at, statement_of}
+use Rattle.rows.specs.Heads.{got, then, refuse, operation_named, variable_of, expression_at, statement_at}
 use Rattle.rows.specs.Parts.{expression_row, statement_row}
 use Rattle.rows.proofs.Answered.{then_came, got_came}
 use Rattle.rows.proofs.Shapes.{expression_known, statement_known}

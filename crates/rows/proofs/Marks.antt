@@ -1,10 +1,9 @@
 -- Writing ends into a table, part by part and the head last, leaves the ends of the whole.
-use Rattle.std.proofs.Common.{◌≡◌, ℕ, zero, suc, ◌+◌, ◌<◌, List, [], ◌∷◌, ◌++◌, length, set, replicate, sym, refl, ap, ◌∙◌, ap₂, append_assoc, add-zero, arith, length-append}
+use Rattle.std.proofs.Common.{◌≡◌, ℕ, zero, suc, ◌+◌, ◌<◌, List, [], ◌∷◌, ◌++◌, length, set, replicate, sym, refl, ap, ◌∙◌, append_assoc, add-zero, arith, length-append}
 use Rattle.std.proofs.lemmas.List.{set_comm, set_at}
-use Rattle.model.specs.Kernel.{Expr, num, var, me, all, op, Stmt, skip, seq, assign, read, update, if, while, wait}
-use Rattle.model.specs.Rows.{expr_row, stmt_row}
-use Rattle.rows.specs.Parts.{Many, Sort, exprs, stmts, nothing, both, many}
-use Rattle.rows.specs.Table.{behind, expr_ends, stmt_ends}
+use Rattle.model.specs.Kernel.{num, var, me, all, op, skip, seq, assign, read, update, if, while, wait}
+use Rattle.rows.specs.Parts.{Sort, exprs, stmts, both, many}
+use Rattle.rows.specs.Table.{expr_ends, stmt_ends}
 use Rattle.rows.specs.Told.{entered, marked}
 
 entered_set : (t : List ℕ) (at x : ℕ) → 0 < x → entered t at x ≡ set t at x

@@ -1,5 +1,5 @@
 -- The reason of a refusal is true of the rows at its place.
-use Rattle.std.proofs.Common.{◌≡◌, ℕ, zero, suc, ◌+◌, ◌<◌, ◌≤◌, Bool, true, false, cond, ltb, List, [], ◌∷◌, ◌++◌, length, get_or, drop, sym, refl, ap, ◌∙◌, subst, ⊎_elim, arith, length-append, length-drop}
+use Rattle.std.proofs.Common.{◌≡◌, ℕ, zero, suc, ◌+◌, ◌<◌, ◌≤◌, Bool, true, false, cond, ltb, List, ◌++◌, length, get_or, drop, sym, refl, ap, ◌∙◌, subst, ⊎_elim, arith, length-append, length-drop}
 use borrow.Author.Tests.{false-ltb}
 use Rattle.std.proofs.lemmas.List.{drop_more, drop_all}
 use Rattle.std.proofs.str.Laws.{order}
@@ -10,10 +10,10 @@ use Rattle.rows.specs.declared.head.Expression.TheVariants.{Number, Variable, Me
 use Rattle.rows.specs.declared.head.Statement.TheVariants.{Skip, Seq, Assign, Read, Write, Increase, If, While, Wait}
 use Rattle.rows.specs.Decoded.{Reason}
 use Rattle.rows.specs.Heads.{Got, got, bad, then, refuse, word_at, variable_of, variable_at, operation_named, operation_at, expression_of, expression_at, statement_of, statement_at}
-use Rattle.rows.specs.Parts.{Sort, exprs, stmts, many, both, inner_exprs, inner_stmts, operands, expression_row, statement_row, expr_of, stmt_of}
+use Rattle.rows.specs.Parts.{Sort, exprs, stmts, many, inner_exprs, inner_stmts, operands, expression_row, statement_row, expr_of, stmt_of}
 use Rattle.rows.specs.Reader.{Reader, pair, several, headed, too_deep, read_expr, read_stmt}
 use Rattle.rows.specs.Table.{behind}
-use Rattle.rows.proofs.Exact.{Sound, Stands, several_sound, expr_sound, stmt_sound}
+use Rattle.rows.proofs.Exact.{Sound, several_sound, expr_sound, stmt_sound}
 use Rattle.rows.proofs.Exits.{rest_at}
 use Rattle.rows.proofs.Shapes.{expression_known, statement_known}
 use Rattle.rows.proofs.HeadsExact.{Front, expression_front, statement_front}

@@ -1,8 +1,8 @@
 -- Each statement and expression is its head and its parts: the row, the depth, the variables and the
 -- number of statements of the whole, by those of the parts. One clause for each head.
-use Rattle.std.proofs.Common.{◌≡◌, ℕ, suc, ◌+◌, ◌-◌, Bool, true, false, ◌&&◌, ltb, List, [], ◌∷◌, ◌++◌, length, replicate, refl, ap, append-nil, add-zero, arith}
-use Rattle.model.specs.Kernel.{Expr, num, var, me, all, op, Change, write, add, Stmt, skip, seq, assign, read, update, if, while, wait}
-use Rattle.model.specs.Rows.{op_code, expr_row, expr_known, expr_depth, stmt_row, stmt_known, stmt_depth}
+use Rattle.std.proofs.Common.{◌≡◌, ℕ, suc, ◌+◌, ◌-◌, Bool, true, ◌&&◌, ltb, List, ◌∷◌, ◌++◌, length, replicate, refl, ap, append-nil, add-zero, arith}
+use Rattle.model.specs.Kernel.{Expr}
+use Rattle.model.specs.Rows.{op_code}
 use Rattle.rows.specs.declared.head.Expression.{Expression}
 use Rattle.rows.specs.declared.head.Expression.TheVariants.{Number, Variable, Me, All, Operation}
 use Rattle.rows.specs.declared.head.Statement.{Statement}

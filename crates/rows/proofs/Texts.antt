@@ -1,19 +1,19 @@
 -- Rows that say a text are read as that text, so they say no other; and what each exit of `decode` owes.
 use Rattle.std.proofs.Common.{◌≡◌, ℕ, suc, ◌+◌, ◌<◌, ◌≤◌, List, [], ◌∷◌, ◌++◌, length, get_or, drop, replicate, IsErrAnd, Ok, Err, Result, sym, refl, ap, ◌∙◌, subst, append-nil, arith, length-append}
 use Rattle.std.proofs.lemmas.List.{nil_from_length}
-use Rattle.model.specs.Kernel.{Kernel, Stmt}
+use Rattle.model.specs.Kernel.{Kernel}
 use Rattle.model.specs.Rows.{Rows, stmt_row, OneKernel}
 use Rattle.rows.specs.declared.decoder.Text.{Text}
 use Rattle.rows.specs.declared.part.Part.{Part}
 use Rattle.rows.specs.declared.refusals.Refusal.{Refusal}
 use Rattle.rows.specs.declared.refusals.Fault.TheVariants.{EndsEarly, AfterEnd, TooManyWords, TooManyVariables, ShortTable}
-use Rattle.rows.specs.Decoded.{Reason, Refused, Decoded, DecodePost}
-use Rattle.rows.specs.Heads.{Got, got, bad, answer, word_at}
+use Rattle.rows.specs.Decoded.{Refused, DecodePost}
+use Rattle.rows.specs.Heads.{got, answer, word_at}
 use Rattle.rows.specs.Parts.{stmts}
 use Rattle.rows.specs.Reader.{read_stmt}
-use Rattle.rows.specs.Table.{stmt_ends, kernel_ends}
+use Rattle.rows.specs.Table.{stmt_ends}
 use Rattle.rows.specs.Told.{marked, Told}
-use Rattle.rows.proofs.Exact.{Stands, stmt_sound, stmt_complete}
+use Rattle.rows.proofs.Exact.{stmt_sound, stmt_complete}
 use Rattle.rows.proofs.Exits.{held, missed}
 use Rattle.rows.proofs.Marks.{marked_all, stmt_beside}
 use Rattle.rows.proofs.Reasons.{stmt_fair}

@@ -1,6 +1,6 @@
 -- How a head, the first words of a statement or an expression, is read from the front of a list of
 -- words. `at` is the position of the front in the rows, which a refusal tells.
-use Rattle.std.specs.Prelude.{ℕ, zero, suc, ◌+◌, Bool, true, false, cond, List, [], ◌∷◌, Ok, Err, Result, nat_lt, slice_index_or}
+use Rattle.std.specs.Prelude.{ℕ, ◌+◌, cond, List, [], ◌∷◌, Ok, Err, Result, nat_lt, slice_index_or}
 use Rattle.model.specs.declared.Op.{Op}
 use Rattle.model.specs.declared.Op.TheVariants.{Add, Sub, Mul, Div, Rem, Less, Same}
 use Rattle.rows.specs.declared.refusals.Fault.{Fault}

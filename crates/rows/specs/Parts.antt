@@ -1,7 +1,7 @@
 -- What stands in a statement or an expression: its head, which says how many expressions and then how
 -- many statements follow, and these. Each fact about texts is then shown once for any number of parts.
-use Rattle.std.specs.Prelude.{ℕ, zero, suc, ◌+◌, max, Bool, true, ◌&&◌, ltb, List, [], ◌∷◌, ◌++◌}
-use Rattle.model.specs.Kernel.{Expr, num, var, me, all, op, Change, write, add, Stmt, skip, seq, assign, read, update, if, while, wait}
+use Rattle.std.specs.Prelude.{ℕ, zero, suc, ◌+◌, max, Bool, true, ◌&&◌, List, [], ◌∷◌, ◌++◌}
+use Rattle.model.specs.Kernel.{Expr, num, var, me, all, op, write, add, Stmt, skip, seq, assign, read, update, if, while, wait}
 use Rattle.model.specs.Rows.{op_code, expr_row, expr_known, expr_depth, stmt_row, stmt_known, stmt_depth}
 use Rattle.rows.specs.declared.head.Expression.{Expression}
 use Rattle.rows.specs.declared.head.Expression.TheVariants.{Number, Variable, Me, All, Operation}

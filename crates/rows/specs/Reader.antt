@@ -4,7 +4,7 @@ use Rattle.std.specs.Prelude.{ℕ, zero, suc, List}
 use Rattle.model.specs.Kernel.{Expr, Stmt}
 use Rattle.rows.specs.declared.refusals.Fault.TheVariants.{TooDeep}
 use Rattle.rows.specs.Heads.{Got, got, then, refuse, expression_at, statement_at}
-use Rattle.rows.specs.Parts.{Many, Sort, many, exprs, stmts, expression_row, operands, expr_of, statement_row, inner_exprs, inner_stmts, Inner, stmt_of}
+use Rattle.rows.specs.Parts.{Many, Sort, many, exprs, stmts, expression_row, operands, expr_of, statement_row, inner_exprs, inner_stmts, stmt_of}
 use Rattle.rows.specs.Table.{behind}
 
 -- what reads an A from the words that begin at a position

@@ -1,6 +1,6 @@
 // The budget that a program's buffers keep to.
 ghost use Rattle.std.specs.Prelude.{◌≡◌, ◌+◌, ◌-◌, ◌*◌, ◌^◌, ◌<◌, ◌≤◌, nat_le};
-ghost use Rattle.words.specs.Budget.{bare, row_bytes, needed, bytes_beside, capacity, besides};
+ghost use Rattle.words.specs.Budget.{bare, needed, bytes_beside, capacity, besides, besides_rows};
 
 /// How many bytes the buffers of a program take at most, in all.
 pub const BUDGET: usize = 4_194_304;
@@ -8,9 +8,11 @@ pub const BUDGET: usize = 4_194_304;
 /// How many bytes of a file are read at a time.
 pub const CHUNK: usize = 4096;
 
-/// What a program does with its words: it runs the rows by so many threads, once, or in so many orders that are drawn.
+/// What a program does with its words: it reads them, or it also runs the rows by so many threads, once, or in
+/// so many orders that are drawn.
 #[derive(Clone, Copy)]
 pub enum Task {
+    Read,
     Run(u32),
     Orders(u32, u32),
 }
@@ -28,30 +30,9 @@ fn bare_bytes(task: Task) -> usize
     ensures { result ≡ bare task }
 {
     match task {
+        Task::Read => 4096,
         Task::Run(threads) => 20480 + 4097 * threads as usize,
         Task::Orders(threads, orders) => 4104 + 4098 * threads as usize + orders as usize,
-    }
-}
-
-/// How many bytes so many words of the rows take.
-fn bytes_of_rows(task: Task, words: usize) -> u128
-    ensures value { result ≡ row_bytes task words }
-    ensures bound { result ≤ 40 * words }
-{
-    match task {
-        Task::Run(_) => 40 * words as u128,
-        Task::Orders(_, _) => 8 * words as u128,
-    }
-}
-
-/// How many bytes the buffers take with so many words of a file.
-pub fn bytes_needed(task: Task, role: Role, words: usize) -> u128
-    ensures { result ≡ needed task role words }
-{
-    let bare = bare_bytes(task) as u128;
-    match role {
-        Role::Memory => bare + 20 * words as u128,
-        Role::Rows(memory) => bare + 20 * memory as u128 + bytes_of_rows(task, words),
     }
 }
 
@@ -62,19 +43,52 @@ pub fn fits(task: Task) -> bool
     bare_bytes(task) <= BUDGET
 }
 
+/// How many bytes the buffers take with so many words of a file.
+pub fn bytes_needed(task: Task, role: Role, words: usize) -> u128
+    ensures { result ≡ needed task role words }
+{
+    let words = words as u128;
+    match (task, role) {
+        (Task::Read, Role::Memory) => 4096 + 4 * words,
+        (Task::Read, Role::Rows(memory)) => 4096 + 4 * memory as u128 + 8 * words,
+        (Task::Run(threads), Role::Memory) => 20480 + 4097 * threads as u128 + 20 * words,
+        (Task::Run(threads), Role::Rows(memory)) => {
+            20480 + 4097 * threads as u128 + 20 * memory as u128 + 40 * words
+        }
+        (Task::Orders(threads, orders), Role::Memory) => {
+            4104 + 4098 * threads as u128 + orders as u128 + 20 * words
+        }
+        (Task::Orders(threads, orders), Role::Rows(memory)) => {
+            4104 + 4098 * threads as u128 + orders as u128 + 20 * memory as u128 + 8 * words
+        }
+    }
+}
+
 /// How many words of a file the budget has room for.
 pub fn room(task: Task, role: Role) -> usize
     ensures within { 0 < result → needed task role result ≤ 4194304 }
     ensures most { 4194304 < needed task role (result + 1) }
 {
-    let left = BUDGET.saturating_sub(bare_bytes(task));
     match (task, role) {
-        (_, Role::Memory) => left / 20,
-        (Task::Run(_), Role::Rows(memory)) => left.saturating_sub(memory.saturating_mul(20)) / 40,
+        (Task::Read, Role::Memory) => (BUDGET - CHUNK) / 4,
+        (Task::Read, Role::Rows(memory)) => {
+            (BUDGET - CHUNK).saturating_sub(memory.saturating_mul(4)) / 8
+        }
+        (_, Role::Memory) => left(task) / 20,
+        (Task::Run(_), Role::Rows(memory)) => {
+            left(task).saturating_sub(memory.saturating_mul(20)) / 40
+        }
         (Task::Orders(_, _), Role::Rows(memory)) => {
-            left.saturating_sub(memory.saturating_mul(20)) / 8
+            left(task).saturating_sub(memory.saturating_mul(20)) / 8
         }
     }
+}
+
+/// What a task leaves of the budget for words.
+fn left(task: Task) -> usize
+    ensures { result ≡ 4194304 - bare task }
+{
+    BUDGET.saturating_sub(bare_bytes(task))
 }
 
 /// How many bytes a task takes beside its one buffer of words and what is read by: the states of its threads, and whether
@@ -83,6 +97,7 @@ fn bytes_besides(task: Task) -> usize
     ensures { result ≡ bytes_beside task }
 {
     match task {
+        Task::Read => 0,
         Task::Run(threads) => threads as usize,
         Task::Orders(threads, orders) => 2 * threads as usize + orders as usize,
     }
@@ -95,18 +110,18 @@ pub fn words_in_all(task: Task) -> usize
     (BUDGET - CHUNK).saturating_sub(bytes_besides(task)) / 4
 }
 
-/// How many words a program sets aside behind those that it read and the table of ends. To run once it lends 4,096 words, 8 for
-/// each word of the rows, 4 for each of the memory, and 1,024 for each thread. To run in orders it has two copies of
-/// the memory, two words for each place of it, of which there is one at least, and 1,024 for each thread.
-pub fn words_besides(task: Task, memory: usize, rows: usize) -> usize
-    ensures value { memory < 2 ^ 32 → rows < 2 ^ 32 → result ≡ besides task memory rows }
-    ensures within { needed task (Role.Rows memory) rows ≤ 4194304 → memory + 2 * rows + result ≤ capacity task }
+/// How many words a program sets aside behind those that it read, but for those that it sets aside for its rows. To run once it
+/// lends 4,096 words, 4 for each word of the memory, and 1,024 for each thread. To run in orders it has two copies of the
+/// memory, two words for each place of it, of which there is one at least, and 1,024 for each thread.
+pub fn words_besides(task: Task, memory: usize) -> usize
+    ensures { memory < 2 ^ 32 → result ≡ besides task memory }
 {
     match task {
-        Task::Run(threads) => rows
-            .saturating_mul(8)
-            .saturating_add(memory.saturating_mul(4))
-            .saturating_add(4096 + 1024 * threads as usize),
+        Task::Read => 0,
+        Task::Run(threads) => {
+            let lent = 4096 + 1024 * threads as usize;
+            lent.saturating_add(memory.saturating_mul(4))
+        }
         Task::Orders(threads, _) => {
             let places = memory.max(1);
             memory
@@ -115,4 +130,23 @@ pub fn words_besides(task: Task, memory: usize, rows: usize) -> usize
                 .saturating_add(1024 * threads as usize)
         }
     }
+}
+
+/// How many words more a program sets aside for so many words of its rows: to run once it lends 8 for each of them.
+fn words_for_rows(task: Task, rows: usize) -> usize
+    ensures value { rows < 2 ^ 32 → result ≡ besides_rows task rows }
+    ensures bound { result ≤ besides_rows task rows }
+{
+    match task {
+        Task::Run(_) => rows.saturating_mul(8),
+        Task::Read | Task::Orders(_, _) => 0,
+    }
+}
+
+/// How many words a program sets aside in all, behind those that it read and the table of ends.
+pub fn words_set_aside(task: Task, memory: usize, rows: usize) -> usize
+    ensures value { memory < 2 ^ 32 → rows < 2 ^ 32 → result ≡ besides task memory + besides_rows task rows }
+    ensures within { needed task (Role.Rows memory) rows ≤ 4194304 → memory + 2 * rows + result ≤ capacity task }
+{
+    words_besides(task, memory).saturating_add(words_for_rows(task, rows))
 }

@@ -5,4 +5,4 @@ pub order-preserved : goal.order-preserved
 order-preserved c = goes_on c.order.invariant c.turn.auto.memory c.turn.auto.marks c.in-Some.ensures
 
 pub returns : goal.returns
-returns c = stops c.order.invariant c.in-default.ensures
+returns c = stops c.order.invariant c.in_default.ensures

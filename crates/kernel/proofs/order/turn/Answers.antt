@@ -1,8 +1,8 @@
-use Rattle.kernel.proofs.Turns.{resumes, ends}
+use Rattle.kernel.proofs.Turns.{waiting_resumed, resumes, released_ends}
 use Rattle.kernel.proofs.order.turn.Goals as goal
 
-pub returns : goal.returns
-returns c = resumes c.in-default.ensures c.if-not-resume-all.ensures c.resumed.ensures
+pub returns-in-Waiting : goal.returns-in-Waiting
+returns-in-Waiting c = resumes c.in_default.ensures (waiting_resumed c.in-Waiting.ensures) c.resumed.ensures
 
-pub returns-then-not-resume-all : goal.returns-then-not-resume-all
-returns-then-not-resume-all c = ends c.in-default.ensures c.if-not-resume-all.ensures
+pub returns-in-Nobody : goal.returns-in-Nobody
+returns-in-Nobody c = released_ends c.in_default.ensures _ c.in-Nobody.is c.release_all.ensures

@@ -3,8 +3,8 @@ use Rattle.rows.specs.declared.head.Expression.TheVariants.{Number, Variable, Me
 use Rattle.machine.proofs.Values.{whole_head, known, leaf_valued}
 use Rattle.machine.proofs.expression.operand_at.Goals as goal
 
-pub expression-head-requires : goal.expression-head-requires
-expression-head-requires c = whole_head c.requires
+pub expression_head-requires : goal.expression_head-requires
+expression_head-requires c = whole_head c.requires
 
 pub bounds-seen-x : goal.bounds-seen-x
 bounds-seen-x c = known (Variable _) c.in-Variable.ensures c.requires

@@ -4,13 +4,13 @@ use Rattle.machine.proofs.Rules.{sized, height_small, has_head, ready, stepped, 
 use Rattle.machine.proofs.step.step.Goals as goal
 
 pub returns-then-words-eq0 : goal.returns-then-words-eq0
-returns-then-words-eq0 c = ended_stepped (record { me = c.args.me; all = c.args.all }) c.if-words-eq0.true c.write-status.ensures refl refl
+returns-then-words-eq0 c = ended_stepped (record { me = c.args.me; all = c.args.all }) c.if-words-eq0.true c.write_status.ensures refl refl
 
 pub top-at-requires : goal.top-at-requires
 top-at-requires c = record { size = sized c.requires; filled = omega arith; low = omega (arith, height_small c.requires) }
 
-pub statement-head-requires : goal.statement-head-requires
-statement-head-requires c = has_head c.requires c.top-at.ensures (omega arith)
+pub statement_head-requires : goal.statement_head-requires
+statement_head-requires c = has_head c.requires c.top-at.ensures (omega arith)
 
 pub split-requires : goal.split-requires
 split-requires c = ready c.requires Seq c.in-Seq.ensures c.top-at.ensures (omega arith)

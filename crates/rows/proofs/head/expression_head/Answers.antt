@@ -5,8 +5,8 @@ use Rattle.rows.proofs.Answered.{at_front, mapped}
 use Rattle.rows.proofs.head.expression_head.Goals as goal
 
 pub returns-in-2 : goal.returns-in-2
-returns-in-2 c = sym (ap (answer (λ x. x)) (at_front (expression_of _ _) _ c.in-ok-word.ensures.front c.in-2.is))
+returns-in-2 c = sym (ap (answer (λ x. x)) (at_front (expression_of _ _) _ c.in_ok-word.ensures.front c.in-2.is))
 
-pub returns-in-ok-variable : goal.returns-in-ok-variable
-returns-in-ok-variable c =
-    sym (ap (answer (λ x. x)) (at_front (expression_of _ _) _ c.in-ok-word.ensures.front c.in-1.is) ∙ mapped Variable _ _ c.in-ok-variable.ensures)
+pub returns-in_ok-variable-in-1 : goal.returns-in_ok-variable-in-1
+returns-in_ok-variable-in-1 c =
+    sym (ap (answer (λ x. x)) (at_front (expression_of _ _) _ c.in_ok-word.ensures.front c.in-1.is) ∙ mapped Variable _ _ c.in_ok-variable-in-1.ensures)

@@ -4,4 +4,4 @@ use Rattle.rows.proofs.Answered.{at_front}
 use Rattle.rows.proofs.head.operation.Goals as goal
 
 pub returns-in-2 : goal.returns-in-2
-returns-in-2 c = sym (ap (answer (λ x. x)) (at_front (operation_named _) _ c.in-ok-word.ensures.front c.in-2.is))
+returns-in-2 c = sym (ap (answer (λ x. x)) (at_front (operation_named _) _ c.in_ok-word.ensures.front c.in-2.is))

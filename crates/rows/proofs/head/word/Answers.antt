@@ -1,6 +1,4 @@
-use Rattle.std.proofs.Common.{refl}
 use Rattle.std.proofs.lemmas.List.{drop_more, drop_all}
-use Rattle.rows.proofs.Exact
 use Rattle.rows.proofs.head.word.Goals as goal
 
 pub returns-then-at-rows : goal.returns-then-at-rows

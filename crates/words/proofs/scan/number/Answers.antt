@@ -9,4 +9,4 @@ loop-byte-preserved c = search (rules, fold_more)
 
 -- The loop has passed the whole text.
 pub returns : goal.returns
-returns c = c.word-of.ensures ∙ ap read (c.loop-byte.invariant ∙ ap digits_only (take_all _ _ c.loop-byte-test.false))
+returns c = c.word_of.ensures ∙ ap read (c.loop-byte.invariant ∙ ap digits_only (take_all _ _ c.loop-byte-test.false))
