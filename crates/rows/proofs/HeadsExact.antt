@@ -8,12 +8,12 @@ use Rattle.rows.specs.declared.head.Expression.{Expression}
 use Rattle.rows.specs.declared.head.Expression.TheVariants.{Number, Variable, Me, All, Operation}
 use Rattle.rows.specs.declared.head.Statement.{Statement}
 use Rattle.rows.specs.declared.head.Statement.TheVariants.{Skip, Seq, Assign, Read, Write, Increase, If, While, Wait}
-use Rattle.rows.specs.Heads.{got, then, refuse, operation_named, variable_of, expression_at, statement_at}
+use Rattle.rows.specs.Heads.{got, then, refuse, operation_of, variable_of, expression_at, statement_at}
 use Rattle.rows.specs.Parts.{expression_row, statement_row}
 use Rattle.rows.proofs.Answered.{then_came, got_came}
 use Rattle.rows.proofs.Shapes.{expression_known, statement_known}
 
-operation_read : (at : ℕ) (o : Op) (s : List ℕ) → operation_named at (op_code o) s ≡ got o s
+operation_read : (at : ℕ) (o : Op) (s : List ℕ) → operation_of at (op_code o) s ≡ got o s
 operation_read at Add s = refl
 operation_read at Sub s = refl
 operation_read at Mul s = refl
@@ -47,7 +47,7 @@ pub record Front (ws row s : List ℕ) (known : Bool) : Type 0 where
   pub row_is : ws ≡ row ++ s
   pub known_is : known ≡ true
 
-operation_front : (at x : ℕ) (ws : List ℕ) (o : Op) (s : List ℕ) → operation_named at x ws ≡ got o s → (x ≡ op_code o) × (ws ≡ s)
+operation_front : (at x : ℕ) (ws : List ℕ) (o : Op) (s : List ℕ) → operation_of at x ws ≡ got o s → (x ≡ op_code o) × (ws ≡ s)
 operation_front at zero ws o s e = (cc, cc)
 operation_front at (suc zero) ws o s e = (cc, cc)
 operation_front at (suc (suc zero)) ws o s e = (cc, cc)
@@ -67,7 +67,7 @@ expression_front k at (suc (suc zero) ∷ ws) h s e = record { row_is = cc; know
 expression_front k at (suc (suc (suc zero)) ∷ ws) h s e = record { row_is = cc; known_is = cc }
 expression_front k at (suc (suc (suc (suc zero))) ∷ []) h s e = record { row_is = cc; known_is = cc }
 expression_front k at (suc (suc (suc (suc zero))) ∷ x ∷ ws) h s e =
-    then_came (λ h s. Front (4 ∷ x ∷ ws) (expression_row h) s (expression_known k h)) (operation_named (at + 1) x ws) (λ o s. got (Operation o) s)
+    then_came (λ h s. Front (4 ∷ x ∷ ws) (expression_row h) s (expression_known k h)) (operation_of (at + 1) x ws) (λ o s. got (Operation o) s)
     (λ o l is. let f = operation_front (at + 1) x ws o l is in
     got_came (λ h s. Front (4 ∷ x ∷ ws) (expression_row h) s (expression_known k h)) (Operation o) l (record { row_is = cc; known_is = refl }))
     h s e

@@ -9,7 +9,7 @@ use Rattle.model.specs.declared.Op.TheVariants.{Add, Sub, Mul, Div, Rem, Less, S
 use Rattle.rows.specs.declared.head.Expression.TheVariants.{Number, Variable, Me, All, Operation}
 use Rattle.rows.specs.declared.head.Statement.TheVariants.{Skip, Seq, Assign, Read, Write, Increase, If, While, Wait}
 use Rattle.rows.specs.Decoded.{Reason}
-use Rattle.rows.specs.Heads.{Got, got, bad, then, refuse, word_at, variable_of, variable_at, operation_named, operation_at, expression_of, expression_at, statement_of, statement_at}
+use Rattle.rows.specs.Heads.{Got, got, bad, then, refuse, word_at, variable_of, variable_at, operation_of, operation_at, expression_of, expression_at, statement_of, statement_at}
 use Rattle.rows.specs.Parts.{Sort, exprs, stmts, many, inner_exprs, inner_stmts, operands, expression_row, statement_row, expr_of, stmt_of}
 use Rattle.rows.specs.Reader.{Reader, pair, several, headed, too_deep, read_expr, read_stmt}
 use Rattle.rows.specs.Table.{behind}
@@ -58,7 +58,7 @@ module _ (w : List ℕ) (room k : ℕ) (variables : k ≡ get_or w 0 0) where
       go at x within is true t = succeeded True x (drop (at + 1) w)
       go at x within is false t = failed True (record { at = at; why = NoVariable }) (within, omega (arith, false-ltb x k (sym t)))
 
-  operation_failed : (at x : ℕ) → at < length w → x ≡ get_or w at 0 → (y : Refusal) → operation_named at x (drop (at + 1) w) ≡ bad y → True y
+  operation_failed : (at x : ℕ) → at < length w → x ≡ get_or w at 0 → (y : Refusal) → operation_of at x (drop (at + 1) w) ≡ bad y → True y
   operation_failed at zero within is = succeeded True Add (drop (at + 1) w)
   operation_failed at (suc zero) within is = succeeded True Sub (drop (at + 1) w)
   operation_failed at (suc (suc zero)) within is = succeeded True Mul (drop (at + 1) w)
@@ -69,7 +69,7 @@ module _ (w : List ℕ) (room k : ℕ) (variables : k ≡ get_or w 0 0) where
   operation_failed at (suc (suc (suc (suc (suc (suc (suc x))))))) within is = failed True (record { at = at; why = NoOperation }) (within, omega arith)
 
   operation_fair : Fair operation_at
-  operation_fair = by_word operation_named operation_failed
+  operation_fair = by_word operation_of operation_failed
 
   -- what stands behind the first word of a head
   second : {A B : Type 0} (f : Reader A) (h : A → B) → Fair f → (at : ℕ) → at < length w → (y : Refusal) → then (f (at + 1) (drop (at + 1) w)) (λ a s. got (h a) s) ≡ bad y → True y

@@ -42,11 +42,11 @@ variable_at k at s = then (word_at at s) (variable_of k at)
 abbrev pub operations : List (List ℕ → Got Op)
 operations = got Add ∷ got Sub ∷ got Mul ∷ got Div ∷ got Rem ∷ got Less ∷ got Same ∷ []
 
-abbrev pub operation_named : ℕ → ℕ → List ℕ → Got Op
-operation_named at x = slice_index_or operations x (λ s. refuse at NoOperation)
+abbrev pub operation_of : ℕ → ℕ → List ℕ → Got Op
+operation_of at x = slice_index_or operations x (λ s. refuse at NoOperation)
 
 abbrev pub operation_at : ℕ → List ℕ → Got Op
-operation_at at s = then (word_at at s) (operation_named at)
+operation_at at s = then (word_at at s) (operation_of at)
 
 abbrev pub expressions : ℕ → ℕ → List (List ℕ → Got Expression)
 expressions k at =
