@@ -23,8 +23,8 @@ pub enum Fault {
     Unreadable(FileName, io::Error),
     Flawed(FileName, Flaw),
     OverBudget(FileName, u128),
-    /// The threads and orders alone pass the budget.
-    TooMany(Task),
+    /// So many threads alone pass the budget.
+    TooMany(u32),
     Arguments(io::Error),
     Output(io::Error),
     NoMemory,
@@ -57,25 +57,6 @@ impl fmt::Display for FileName {
     }
 }
 
-/// What is said of threads and orders for which there is no room, however few the words.
-fn too_many<W: fmt::Write>(task: Task, f: &mut fmt::Formatter<W>) -> fmt::Result {
-    let bytes = bytes_needed(task, Role::Memory, 0);
-    let what = match task {
-        Task::Run(threads) => {
-            write!(f, "--threads {threads}")?;
-            "threads"
-        }
-        Task::Orders(threads, orders) => {
-            write!(f, "--threads {threads} and --orders {orders}")?;
-            "threads or orders"
-        }
-    };
-    write!(
-        f,
-        ": with no words at all the buffers would take {bytes} bytes, and the budget is {BUDGET}: give fewer {what}"
-    )
-}
-
 impl fmt::Display for Fault {
     fn fmt<W: fmt::Write>(&self, f: &mut fmt::Formatter<W>) -> fmt::Result {
         match self {
@@ -106,7 +87,13 @@ impl fmt::Display for Fault {
                 f,
                 "{file}: with its words the buffers would take {bytes} bytes or more, and the budget is {BUDGET}: give fewer words, here or in --memory, or fewer threads"
             ),
-            Fault::TooMany(task) => too_many(*task, f),
+            Fault::TooMany(threads) => {
+                let bytes = bytes_needed(Task::Run(*threads), Role::Memory, 0);
+                write!(
+                    f,
+                    "--threads {threads}: with no words at all the buffers would take {bytes} bytes, and the budget is {BUDGET}: give fewer threads"
+                )
+            }
             Fault::Arguments(why) => write!(
                 f,
                 "the arguments can't be read: {why}: write them in UTF-8"

@@ -1,12 +1,12 @@
 // The words that a program runs on, read from its files into one buffer.
 ghost use Rattle.std.specs.Prelude.{◌≡◌, ◌+◌, ◌^◌, ◌<◌, ◌≤◌, length, IfOk, vec_len};
-ghost use Rattle.words.specs.Budget.{besides};
+ghost use Rattle.words.specs.Budget.{besides, besides_rows};
 
 use crate::fault::{Fault, FileName};
 use crate::options::Options;
 use std::fs;
 use std::io::Read;
-use words::budget::{CHUNK, Role, Task, bytes_needed, fits, room, words_besides, words_in_all};
+use words::budget::{CHUNK, Role, Task, bytes_needed, fits, room, words_in_all, words_set_aside};
 use words::flaw::Stop;
 use words::scanner::{Scanner, keep};
 
@@ -65,11 +65,12 @@ pub fn read_words(
 }
 
 impl Input {
-    /// Reads the files that the options name. What passes the budget with no words at all is refused before.
+    /// Reads the files that the options name. To run once with threads that pass the budget with no words at all is refused before.
     pub fn read(rt: &HostRuntime, options: &Options, task: Task) -> Result<Input, Fault> {
-        let rows = options.rows()?;
-        if !fits(task) {
-            return Err(Fault::TooMany(task));
+        if let Task::Run(threads) = task
+            && !fits(task)
+        {
+            return Err(Fault::TooMany(threads));
         }
         let mut words = Vec::new(rt.alloc());
         words.reserve_exact(words_in_all(task))?;
@@ -77,7 +78,13 @@ impl Input {
             read_words(rt, file.as_str(), task, Role::Memory, &mut words)?;
         }
         let memory = words.len();
-        read_words(rt, rows, task, Role::Rows(memory), &mut words)?;
+        read_words(
+            rt,
+            options.rows.as_str(),
+            task,
+            Role::Rows(memory),
+            &mut words,
+        )?;
         Input::of(words, memory, task)
     }
 
@@ -85,11 +92,11 @@ impl Input {
     fn of(mut words: Vec<u32>, memory: usize, task: Task) -> Result<Input, Fault>
         ensures memory { IfOk result (λ i. (memory ≤ vec_len words → i.memory ≡ memory)) }
         ensures rows { IfOk result (λ i. i.memory + i.rows ≡ vec_len words) }
-        ensures rest { IfOk result (λ i. (i.memory < 2 ^ 32 → i.rows < 2 ^ 32 → i.rest ≡ besides task i.memory i.rows)) }
+        ensures rest { IfOk result (λ i. (i.memory < 2 ^ 32 → i.rows < 2 ^ 32 → i.rest ≡ besides task i.memory + besides_rows task i.rows)) }
     {
         let memory = memory.min(words.len());
         let rows = words.len() - memory;
-        let rest = words_besides(task, memory, rows);
+        let rest = words_set_aside(task, memory, rows);
         let Some(tabled) = words.len().checked_add(rows) else {
             return Err(Fault::NoMemory);
         };

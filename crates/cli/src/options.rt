@@ -1,5 +1,5 @@
 // What a program is asked to do, read from its arguments.
-ghost use Rattle.std.specs.Prelude.{◌≡◌, true, false, not, is_some, IfSome, is_ok, IfOk, Some, Ok, OnOk};
+ghost use Rattle.std.specs.Prelude.{◌≡◌, true, false, not, is_some, IfSome, is_ok, IfOk, None, Some, Ok, OnOk};
 ghost use Rattle.std.specs.Option.{unwrap_or};
 ghost use Rattle.cli.specs.Options.{valued};
 ghost use Rattle.cli.specs.declared.options.Call.TheVariants.{Help, Run};
@@ -22,29 +22,14 @@ pub struct Options {
     pub orders: u32,
     pub texts: u32,
     pub quiet: bool,
-    pub rows: Option<String>,
+    pub rows: String,
 }
 
-impl Options {
-    /// The file of the rows, which a program that runs them can't do without.
-    pub fn rows(&self) -> Result<&str, Fault>
-        ensures { is_ok result ≡ is_some self.now.rows }
-    {
-        match &self.rows {
-            Some(file) => Ok(file.as_str()),
-            None => Err(Fault::NoRows),
-        }
-    }
-
-    /// Refuses a file, for a program that takes none.
-    pub fn no_file(&self) -> Result<(), Fault>
-        ensures { is_ok result ≡ not (is_some self.now.rows) }
-    {
-        match &self.rows {
-            Some(file) => Err(Fault::NoFile(Quote::of(file.as_str()))),
-            None => Ok(()),
-        }
-    }
+/// What a program runs on that reads no file.
+#[derive(Clone, Copy)]
+pub struct Trial {
+    pub texts: u32,
+    pub seed: u32,
 }
 
 /// What the arguments ask for.
@@ -165,10 +150,31 @@ impl Given {
 }
 
 impl Given {
+    /// Reads all words, of which a program takes the options that it allows.
+    fn read(words: Args, allowed: &[Flag]) -> Result<Given, Fault> {
+        let mut given = Given::none();
+        let mut awaited: Option<Flag> = None;
+        for word in words {
+            awaited = match awaited {
+                Some(flag) => {
+                    given.set(flag, word)?;
+                    None
+                }
+                None => given.take(word, allowed)?,
+            };
+        }
+        match awaited {
+            Some(flag) => Err(Fault::NoValue(flag)),
+            None => Ok(given),
+        }
+    }
+
     /// What was asked for, once all arguments are read.
     fn call(self) -> Result<Call, Fault>
         ensures help { self.help ≡ true → result ≡ Ok Help }
-        ensures run { IfOk result (λ c. elim c [ Help ↦ self.help ≡ true | Run o ↦ (o.threads ≡ unwrap_or self.threads 1) × (o.turns ≡ unwrap_or self.turns 1000) × (o.memory ≡ self.memory) × (o.seed ≡ unwrap_or self.seed 1) × (o.orders ≡ unwrap_or self.orders 20) × (o.texts ≡ unwrap_or self.texts 500) × (o.quiet ≡ unwrap_or self.quiet false) × (o.rows ≡ self.rows) ]) }
+        ensures run { IfOk result (λ c. elim c [ Help ↦ self.help ≡ true | Run o ↦ (o.threads ≡ unwrap_or self.threads 1) × (o.turns ≡ unwrap_or self.turns 1000) × (o.memory ≡ self.memory) × (o.seed ≡ unwrap_or self.seed 1) × (o.orders ≡ unwrap_or self.orders 20) × (self.rows ≡ Some o.rows) ]) }
+        ensures more { IfOk result (λ c. elim c [ Help ↦ self.help ≡ true | Run o ↦ (o.texts ≡ unwrap_or self.texts 500) × (o.quiet ≡ unwrap_or self.quiet false) ]) }
+        ensures test { self.help ≡ false → self.memory ≡ None → is_ok result ≡ is_some self.rows }
     {
         let Given {
             help,
@@ -184,7 +190,10 @@ impl Given {
         if help {
             return Ok(Call::Help);
         }
-        if is_stdin(&memory) && is_stdin(&rows) {
+        let Some(rows) = rows else {
+            return Err(Fault::NoRows);
+        };
+        if is_stdin(&memory) && rows.as_str() == "-" {
             return Err(Fault::OneInput);
         }
         Ok(Call::Run(Options {
@@ -198,9 +207,36 @@ impl Given {
             rows,
         }))
     }
+    /// What a program that reads no file was asked for, once all arguments are read: nothing where that is help.
+    fn trial(self) -> Result<Option<Trial>, Fault>
+        ensures help { self.help ≡ true → result ≡ Ok None }
+        ensures run { IfOk result (λ o. elim o [ None ↦ self.help ≡ true | Some t ↦ (t.texts ≡ unwrap_or self.texts 500) × (t.seed ≡ unwrap_or self.seed 1) ]) }
+        ensures test { self.help ≡ false → is_ok result ≡ not (is_some self.rows) }
+    {
+        if self.help {
+            return Ok(None);
+        }
+        no_file(&self.rows)?;
+        Ok(Some(Trial {
+            texts: self.texts.unwrap_or(500),
+            seed: self.seed.unwrap_or(1),
+        }))
+    }
 }
 
-fn is_stdin(file: &Option<String>) -> bool {
+/// Refuses a file, for a program that takes none.
+fn no_file(rows: &Option<String>) -> Result<(), Fault>
+    ensures { is_ok result ≡ not (is_some rows.now) }
+{
+    match rows {
+        Some(file) => Err(Fault::NoFile(Quote::of(file.as_str()))),
+        None => Ok(()),
+    }
+}
+
+fn is_stdin(file: &Option<String>) -> bool
+    ensures { file.now ≡ None → result ≡ false }
+{
     match file {
         Some(name) => name.as_str() == "-",
         None => false,
@@ -209,29 +245,30 @@ fn is_stdin(file: &Option<String>) -> bool {
 
 /// Reads the arguments behind the program's own name. A program takes the options that it allows.
 pub fn read_options(words: Args, allowed: &[Flag]) -> Result<Call, Fault> {
-    let mut given = Given::none();
-    let mut awaited: Option<Flag> = None;
-    for word in words {
-        awaited = match awaited {
-            Some(flag) => {
-                given.set(flag, word)?;
-                None
-            }
-            None => given.take(word, allowed)?,
-        };
-    }
-    match awaited {
-        Some(flag) => Err(Fault::NoValue(flag)),
-        None => given.call(),
-    }
+    Given::read(words, allowed)?.call()
+}
+
+/// .. of a program that reads no file: nothing where they ask for help.
+pub fn read_trial_options(words: Args, allowed: &[Flag]) -> Result<Option<Trial>, Fault> {
+    Given::read(words, allowed)?.trial()
 }
 
 /// Reads a program's own arguments.
 pub fn read_arguments(rt: &HostRuntime, allowed: &[Flag]) -> Result<Call, Fault> {
+    read_options(own_words(rt)?, allowed)
+}
+
+/// .. of a program that reads no file: nothing where they ask for help.
+pub fn read_trial_arguments(rt: &HostRuntime, allowed: &[Flag]) -> Result<Option<Trial>, Fault> {
+    read_trial_options(own_words(rt)?, allowed)
+}
+
+/// The words behind a program's own name.
+fn own_words(rt: &HostRuntime) -> Result<Args, Fault> {
     let mut words = match env::args(rt) {
         Ok(words) => words,
         Err(why) => return Err(Fault::Arguments(why)),
     };
     let _program = words.next();
-    read_options(words, allowed)
+    Ok(words)
 }

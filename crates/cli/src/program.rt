@@ -3,7 +3,7 @@ ghost use Rattle.std.specs.Prelude.{◌≡◌, false, is_ok, Ok, Err};
 
 use crate::fault::Fault;
 use crate::flag::Flag;
-use crate::options::{Call, Options, read_arguments};
+use crate::options::{Call, Options, Trial, read_arguments, read_trial_arguments};
 
 /// Why a program ends with status 1: its answer is no, or it has none.
 pub enum Ended {
@@ -20,6 +20,19 @@ pub fn begin(rt: &HostRuntime, usage: &str, allowed: &[Flag]) -> Result<Option<O
         }
         Call::Run(options) => Ok(Some(options)),
     }
+}
+
+/// .. a program that reads no file.
+pub fn begin_trial(
+    rt: &HostRuntime,
+    usage: &str,
+    allowed: &[Flag],
+) -> Result<Option<Trial>, Fault> {
+    let asked = read_trial_arguments(rt, allowed)?;
+    if asked.is_none() {
+        println!(rt; "{usage}")?;
+    }
+    Ok(asked)
 }
 
 /// How a program ends whose answer is yes or no, or that could not give one, which is said on standard error.

@@ -4,7 +4,7 @@
 use cli::fault::{Fault, FileName};
 use cli::flag::Flag;
 use cli::input::{Input, read_words};
-use cli::options::{Call, Options, read_options};
+use cli::options::{Call, Options, read_options, read_trial_options};
 use std::alloc::{AllocError, Global};
 use words::budget::{Role, Task, bytes_needed, room};
 use words::flaw::Stop;
@@ -48,46 +48,46 @@ pub fn told(heap: Global, read: Result<(), Stop>, words: &Vec<u32>) -> Result<St
     }
 }
 
-/// What the arguments in a line ask for, or what is wrong with them.
-pub fn asked(heap: Global, line: &str) -> Result<String, AllocError> {
+/// The words of a line.
+fn words_of(heap: Global, line: &str) -> Result<Vec<String>, AllocError> {
     let mut words = Vec::new(heap);
     for word in line.split_whitespace() {
         words.push(String::from_str(heap, word)?)?;
     }
-    match read_options(
-        words.into_iter(),
-        &[Flag::Threads, Flag::Turns, Flag::Memory, Flag::Quiet],
-    ) {
+    Ok(words)
+}
+
+/// What the arguments in a line ask for, or what is wrong with them.
+pub fn asked(heap: Global, line: &str) -> Result<String, AllocError> {
+    asked_of(heap, line, &[Flag::Threads, Flag::Turns, Flag::Memory])
+}
+
+/// .. of a program that allows these options.
+pub fn asked_of(heap: Global, line: &str, allowed: &[Flag]) -> Result<String, AllocError> {
+    match read_options(words_of(heap, line)?.into_iter(), allowed) {
         Ok(Call::Help) => format!(in heap; "help"),
         Ok(Call::Run(options)) => {
             let threads = options.threads;
             let turns = options.turns;
             let memory = &options.memory;
+            let rows = &options.rows;
             let quiet = if options.quiet { " quiet" } else { "" };
-            match options.rows() {
-                Ok(rows) => format!(in heap; "{threads} {turns} {memory:?} {rows}{quiet}"),
-                Err(fault) => format!(in heap; "{fault}"),
-            }
+            format!(in heap; "{threads} {turns} {memory:?} {rows}{quiet}")
         }
         Err(fault) => format!(in heap; "{fault}"),
     }
 }
 
-/// .. of a program that takes no file.
+/// .. of a program that reads no file.
 pub fn asked_without_file(heap: Global, line: &str) -> Result<String, AllocError> {
-    let mut words = Vec::new(heap);
-    for word in line.split_whitespace() {
-        words.push(String::from_str(heap, word)?)?;
-    }
-    let options = match read_options(words.into_iter(), &[Flag::Texts, Flag::Seed]) {
-        Ok(Call::Help) => return format!(in heap; "help"),
-        Ok(Call::Run(options)) => options,
-        Err(fault) => return format!(in heap; "{fault}"),
-    };
-    match options.no_file() {
-        Ok(()) => {
-            let texts = options.texts;
-            let seed = options.seed;
+    match read_trial_options(
+        words_of(heap, line)?.into_iter(),
+        &[Flag::Texts, Flag::Seed],
+    ) {
+        Ok(None) => format!(in heap; "help"),
+        Ok(Some(trial)) => {
+            let texts = trial.texts;
+            let seed = trial.seed;
             format!(in heap; "{texts} {seed}")
         }
         Err(fault) => format!(in heap; "{fault}"),
@@ -105,7 +105,7 @@ pub fn refused(rt: &HostRuntime, task: Task) -> Result<String, AllocError> {
         orders: 1,
         texts: 1,
         quiet: false,
-        rows: Some(String::from_str(heap, "no-such-file")?),
+        rows: String::from_str(heap, "no-such-file")?,
     };
     match Input::read(rt, &options, task) {
         Ok(_) => format!(in heap; "it has"),
@@ -193,7 +193,6 @@ mod tests {
             ("a", "1 1000 None a"),
             ("--threads 2 - --turns 4294967295", "2 4294967295 None -"),
             ("--memory - --turns 0 a", "1 0 Some(\"-\") a"),
-            ("--quiet a --turns 2", "1 2 None a quiet"),
             ("a --help", "help"),
             (
                 "--thread 2 a",
@@ -204,10 +203,6 @@ mod tests {
                 "unknown option '--seed': --help lists the options",
             ),
             ("a --turns", "--turns has no value: write one behind it"),
-            (
-                "--turns --quiet a",
-                "--turns has no value: write one behind it",
-            ),
             (
                 "--memory --turns 2 a",
                 "--memory has no value: write one behind it",
@@ -224,7 +219,6 @@ mod tests {
                 "--memory a --memory a b",
                 "--memory is given twice: give it once",
             ),
-            ("--quiet a --quiet", "--quiet is given twice: give it once"),
             (
                 "--threads 2",
                 "no ROWS: name the file of the rows, or - for standard input",
@@ -236,6 +230,24 @@ mod tests {
             ),
         ] {
             assert_eq!(rt; asked(heap, line)?.as_str(), told);
+        }
+        Ok(())
+    }
+
+    #[test]
+    fn arguments_with_quiet(rt: HostRuntime) -> Result<(), Fail> {
+        let heap = rt.alloc();
+        let allowed = [Flag::Threads, Flag::Turns, Flag::Memory, Flag::Quiet];
+        for (line, told) in [
+            ("a", "1 1000 None a"),
+            ("--quiet a --turns 2", "1 2 None a quiet"),
+            (
+                "--turns --quiet a",
+                "--turns has no value: write one behind it",
+            ),
+            ("--quiet a --quiet", "--quiet is given twice: give it once"),
+        ] {
+            assert_eq!(rt; asked_of(heap, line, &allowed)?.as_str(), told);
         }
         Ok(())
     }
@@ -254,6 +266,7 @@ mod tests {
                 "--texts 2 a",
                 "'a' is no option, and no file is read: --help lists the options",
             ),
+            ("a --help", "help"),
         ] {
             assert_eq!(rt; asked_without_file(heap, line)?.as_str(), told);
         }
@@ -264,13 +277,30 @@ mod tests {
     fn files(rt: HostRuntime) -> Result<(), Fail> {
         let heap = rt.alloc();
         let mut words = Vec::new(heap);
-        let Err(fault) = read_words(&rt, "no\tsuch", Task::Run(1), Role::Memory, &mut words) else {
+        let Err(fault) = read_words(&rt, "no\tsuch", Task::Read, Role::Memory, &mut words) else {
             return Err(Fail::new("there is such a file"));
         };
         assert_eq!(rt;
             format!(in heap; "{fault}")?.as_str(),
             "no?such: can't be read: No such file or directory (os error 2)"
         );
+        let name = FileName(String::from_str(heap, "-")?);
+        let most = room(Task::Read, Role::Rows(1000));
+        let over = Fault::OverBudget(
+            name,
+            bytes_needed(Task::Read, Role::Rows(1000), most.saturating_add(1)),
+        );
+        assert_eq!(rt; most, 523276);
+        let told =
+            "standard input: with its words the buffers would take 4194312 bytes or more, and the budget is 4194304: give fewer words, here or in --memory, or fewer threads";
+        assert_eq!(rt; format!(in heap; "{over}")?.as_str(), told);
+        Ok(())
+    }
+
+    /// The room of a program that runs its rows once.
+    #[test]
+    fn room_to_run(rt: HostRuntime) -> Result<(), Fail> {
+        let heap = rt.alloc();
         let name = FileName(String::from_str(heap, "-")?);
         let most = room(Task::Run(2), Role::Rows(1000));
         let over = Fault::OverBudget(
@@ -284,9 +314,9 @@ mod tests {
         Ok(())
     }
 
+    /// A run that passes the budget with no words at all is refused before its files are read, and orders are not.
     #[test]
     fn budgets(rt: HostRuntime) -> Result<(), Fail> {
-        let heap = rt.alloc();
         for (task, told) in [
             (
                 Task::Run(1018),
@@ -302,7 +332,7 @@ mod tests {
             ),
             (
                 Task::Orders(1022, 2045),
-                "--threads 1022 and --orders 2045: with no words at all the buffers would take 4194305 bytes, and the budget is 4194304: give fewer threads or orders",
+                "no-such-file: can't be read: No such file or directory (os error 2)",
             ),
         ] {
             assert_eq!(rt; refused(&rt, task)?.as_str(), told);

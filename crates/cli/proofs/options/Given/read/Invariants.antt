@@ -1,5 +1,5 @@
 use Rattle.std.proofs.Common.{◌≡◌, true, IfSome}
-use Rattle.cli.proofs.options.read_options.Given as goal
+use Rattle.cli.proofs.options.Given.read.Given as goal
 use Rattle.cli.specs.Options.{valued}
 
 -- An option that awaits its value takes one.
