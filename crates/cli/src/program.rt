@@ -1,15 +1,11 @@
 // How a program begins and ends: its options or its help, and its status.
-ghost use Rattle.std.specs.Prelude.{◌≡◌, false, is_ok, Ok, Err};
+ghost use Rattle.std.specs.Prelude.{◌≡◌, cond, Ok, Err};
+ghost use Rattle.std.specs.Process.{exit_status};
 
 use crate::fault::Fault;
 use crate::flag::Flag;
 use crate::options::{Call, Options, Trial, read_arguments, read_trial_arguments};
-
-/// Why a program ends with status 1: its answer is no, or it has none.
-pub enum Ended {
-    No,
-    Fault,
-}
+use std::process::ExitCode;
 
 /// What a program is asked to do, or nothing where it is asked for help, which is printed.
 pub fn begin(rt: &HostRuntime, usage: &str, allowed: &[Flag]) -> Result<Option<Options>, Fault> {
@@ -35,16 +31,16 @@ pub fn begin_trial(
     Ok(asked)
 }
 
-/// How a program ends whose answer is yes or no, or that could not give one, which is said on standard error.
-pub fn end(rt: &HostRuntime, answer: Result<bool, Fault>) -> Result<(), Ended>
-    ensures { is_ok result ≡ elim answer [ Ok holds ↦ holds | Err fault ↦ false ] }
+/// The status of a program whose answer is yes, 0, or no, 1; or that could not give one, which is 1 too, and is said on standard error.
+pub fn end(rt: &HostRuntime, answer: Result<bool, Fault>) -> ExitCode
+    ensures { exit_status result ≡ elim answer [ Ok holds ↦ cond holds 0 1 | Err fault ↦ 1 ] }
 {
     match answer {
-        Ok(true) => Ok(()),
-        Ok(false) => Err(Ended::No),
+        Ok(true) => ExitCode::SUCCESS,
+        Ok(false) => ExitCode::FAILURE,
         Err(fault) => {
             let _ = eprintln!(rt; "{fault}");
-            Err(Ended::Fault)
+            ExitCode::FAILURE
         }
     }
 }

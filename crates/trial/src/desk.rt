@@ -6,7 +6,7 @@ use kernel::led::{Led, lead};
 use std::alloc::{AllocError, Global};
 use texts::MOST;
 use texts::case::{Case, MOST_THREADS, MOST_WORDS};
-use words::budget::{Task, words_besides};
+use words::budget::{Task, words_set_aside};
 
 /// What stands for a thread that is out of turns.
 const OUT_OF_TURNS: u8 = 3;
@@ -49,7 +49,7 @@ pub struct Desk {
 
 impl Desk {
     pub fn new(heap: Global) -> Result<Desk, AllocError> {
-        let asked = words_besides(Task::Run(MOST_THREADS), MOST_WORDS, MOST);
+        let asked = words_set_aside(Task::Run(MOST_THREADS), MOST_WORDS, MOST);
         Ok(Desk {
             ends: vec![in heap; 0; MOST]?,
             marks: vec![in heap; 0; 2 * MOST_WORDS]?,

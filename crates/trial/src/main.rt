@@ -7,12 +7,13 @@ mod report;
 
 use cli::fault::Fault;
 use cli::flag::Flag;
-use cli::options::Options;
-use cli::program::{Ended, begin, end};
+use cli::options::Trial;
+use cli::program::{begin_trial, end};
 use compare::compare;
 use desk::Desk;
 use kernel::draw::Draw;
 use report::{Report, Summary, Tally};
+use std::process::ExitCode;
 use texts::case::Case;
 
 const USAGE: &str = "./kernel trial [--texts N] [--seed N]
@@ -31,12 +32,11 @@ disagrees is printed in the form of files, with how to run it again. The buffers
 less than 262144 bytes, however many texts there are.";
 
 /// Makes the texts that the options ask for, prints what came of them, and says whether all agree.
-fn tell(rt: &HostRuntime, options: &Options) -> Result<bool, Fault> {
-    options.no_file()?;
+fn tell(rt: &HostRuntime, trial: Trial) -> Result<bool, Fault> {
     let mut desk = Desk::new(rt.alloc())?;
-    let mut draw = Draw::new(options.seed);
+    let mut draw = Draw::new(trial.seed);
     let mut tally = Tally::none();
-    for number in 0..options.texts {
+    for number in 0..trial.texts {
         let case = Case::draw(&mut draw);
         let compared = compare(&case, &mut desk, number);
         tally.count(compared);
@@ -52,8 +52,8 @@ fn tell(rt: &HostRuntime, options: &Options) -> Result<bool, Fault> {
         }
     }
     let summary = Summary {
-        texts: options.texts,
-        seed: options.seed,
+        texts: trial.texts,
+        seed: trial.seed,
         tally,
     };
     println!(rt; "{summary}")?;
@@ -61,12 +61,12 @@ fn tell(rt: &HostRuntime, options: &Options) -> Result<bool, Fault> {
 }
 
 fn run(rt: &HostRuntime) -> Result<bool, Fault> {
-    match begin(rt, USAGE, &[Flag::Texts, Flag::Seed])? {
-        Some(options) => tell(rt, &options),
+    match begin_trial(rt, USAGE, &[Flag::Texts, Flag::Seed])? {
+        Some(trial) => tell(rt, trial),
         None => Ok(true),
     }
 }
 
-fn main(rt: HostRuntime) -> Result<(), Ended> {
+fn main(rt: HostRuntime) -> ExitCode {
     end(&rt, run(&rt))
 }
