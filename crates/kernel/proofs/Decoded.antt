@@ -1,9 +1,8 @@
 -- What `decode` found is a text for an order.
-use Rattle.std.proofs.Common.{ℕ, List, Ok, refl, MatchResult}
+use Rattle.std.proofs.Common.{ℕ, List, Ok, refl}
 use Rattle.model.specs.Kernel.{Kernel}
 use Rattle.rows.specs.declared.decoder.Text.{Text}
 use Rattle.rows.specs.Decoded.{Decoded, DecodePost}
-use Rattle.machine.specs.Stands.{Source}
 use Rattle.machine.proofs.Begin.{decoded_text}
 use Rattle.kernel.specs.Ran.{TextIn, SomeText}
 

@@ -41,7 +41,7 @@ still_rested : {s : Source} {work work' m m' : List ℕ} {n i : ℕ} (st : State
 still_rested {work = work} {n = n} {i = i} st t within held held' rested = record {
   each = λ j _ l.
       let u = nth_some st.threads j (omega (arith, held.count)) in
-      let is' = nth_set_other st.threads i j _ (λ e. omega arith) ∙ u.1 in
+      let is' : slice_get (stepped st i t).threads j ≡ Some u.0 = nth_set_other st.threads i j _ (λ e. omega arith) ∙ u.1 in
       omega (arith, code_at held'.all j u.0 is', code_at held.all j u.0 u.1, rested.each j (omega arith) l);
 }
 

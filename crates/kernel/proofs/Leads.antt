@@ -5,7 +5,7 @@ use Rattle.model.specs.declared.ThreadId.{ThreadId}
 use Rattle.model.specs.Kernel.{Kernel}
 use Rattle.model.specs.Rows.{Rows}
 use Rattle.model.specs.Races.{Racy}
-use Rattle.model.specs.Steps.{State, stepped, one}
+use Rattle.model.specs.Steps.{stepped, one}
 use Rattle.rows.specs.declared.decoder.Text.{Text}
 use Rattle.rows.specs.Decoded.{DecodePost}
 use Rattle.machine.specs.declared.touched.Access.{Access}

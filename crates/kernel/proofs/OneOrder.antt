@@ -1,7 +1,7 @@
 -- The whole order in which threads go one after the other: how it begins, and what its end says of all orders.
 use Rattle.std.proofs.Common.{◌≡◌, ℕ, ◌≤◌, List, length, Ok, Err, Result, sym, subst, arith, MatchResult}
 use Rattle.model.specs.Kernel.{Kernel}
-use Rattle.model.specs.Steps.{State, begin}
+use Rattle.model.specs.Steps.{begin}
 use Rattle.model.specs.Orders.{after}
 use Rattle.machine.specs.Stands.{Source}
 use Rattle.machine.specs.Begins.{AllBegun}

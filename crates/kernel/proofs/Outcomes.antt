@@ -1,12 +1,10 @@
 -- What each exit of `draw_order` owes.
-use Rattle.std.proofs.Common.{◌≡◌, ℕ, ◌≤◌, Bool, true, false, List, length, Ok, Err, refl, subst, arith}
-use Rattle.model.specs.Kernel.{Kernel}
-use Rattle.model.specs.Rows.{Rows}
+use Rattle.std.proofs.Common.{◌≡◌, ℕ, ◌≤◌, Bool, List, length, Ok, Err, refl, subst, arith}
 use Rattle.model.proofs.Promised as model
 use Rattle.rows.specs.declared.refusals.Refusal.{Refusal}
 use Rattle.rows.specs.declared.refusals.Fault.TheVariants.{ShortTable}
 use Rattle.rows.specs.declared.decoder.Text.{Text}
-use Rattle.rows.specs.Decoded.{Reason, Refused, DecodePost}
+use Rattle.rows.specs.Decoded.{Reason, DecodePost}
 use Rattle.rows.proofs.Texts.{one_kernel}
 use Rattle.ledger.proofs.Posts.{laws}
 use Rattle.kernel.specs.declared.drawn.Lent.{Lent}

@@ -1,5 +1,5 @@
 -- One step more at the end of an order, and whether there is a clash on the way then.
-use Rattle.std.proofs.Common.{◌≡◌, ℕ, zero, suc, ◌⊎◌, List, sym, refl, subst, inl, inr}
+use Rattle.std.proofs.Common.{ℕ, zero, suc, ◌⊎◌, List, sym, refl, subst, inl, inr}
 use Rattle.model.specs.Steps.{State, Step, Steps}
 use Rattle.model.specs.Orders.{Clash, Calm}
 use Rattle.ledger.specs.Places.{ledger}

@@ -1,7 +1,6 @@
 -- What each exit of `run` owes.
-use Rattle.std.proofs.Common.{◌≡◌, ℕ, ◌<◌, ◌≤◌, true, false, ◌||◌, ltb, ◌⊎◌, List, length, Ok, Err, Result, sym, refl, subst, subst₂, inl, inr, arith, MatchResult}
+use Rattle.std.proofs.Common.{◌≡◌, ℕ, true, false, ◌||◌, ltb, ◌⊎◌, List, length, Ok, Err, Result, sym, refl, subst, subst₂, inl, inr, arith, MatchResult}
 use Rattle.std.proofs.lemmas.Bool.{ltb-true, ltb-false, or_cases, or_parts}
-use Rattle.model.specs.Kernel.{Kernel}
 use Rattle.model.specs.Steps.{begin}
 use Rattle.rows.specs.declared.decoder.Text.{Text}
 use Rattle.rows.specs.Decoded.{DecodePost}

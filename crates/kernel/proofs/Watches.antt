@@ -1,5 +1,5 @@
 -- What is told after a touch, or after all that wait have gone on.
-use Rattle.std.proofs.Common.{◌≡◌, ℕ, List, [], sym, refl, ap, subst, arith}
+use Rattle.std.proofs.Common.{◌≡◌, ℕ, List, sym, subst, arith}
 use Rattle.model.specs.declared.Place.{Place}
 use Rattle.model.specs.declared.ThreadId.{ThreadId}
 use Rattle.model.specs.Steps.{State, Access as Way}
@@ -9,7 +9,7 @@ use Rattle.machine.specs.declared.touched.Touched.TheVariants.{Nothing, At}
 use Rattle.machine.specs.Rules.{how, touches}
 use Rattle.ledger.specs.declared.stamp.Stamp.{Stamp}
 use Rattle.ledger.specs.declared.places.Noted.TheVariants.{Fine, Clash}
-use Rattle.ledger.specs.Places.{Ledger, ledger}
+use Rattle.ledger.specs.Places.{ledger}
 use Rattle.ledger.specs.Tells.{Tells, Grows}
 use Rattle.ledger.specs.Promises.{one_touch, NotePost, NextPost}
 use Rattle.ledger.proofs.Tells.{kept_tells}

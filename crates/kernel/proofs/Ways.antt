@@ -1,5 +1,5 @@
 -- The first steps of the order in which threads go one after the other, one more at a time.
-use Rattle.std.proofs.Common.{◌≡◌, ℕ, zero, suc, ◌<◌, sym, refl, subst, ⊎_elim, arith}
+use Rattle.std.proofs.Common.{ℕ, zero, suc, ◌<◌, sym, refl, subst, ⊎_elim, arith}
 use Rattle.std.proofs.lemmas.Bool.{cases_eq}
 use Rattle.model.specs.Steps.{State, Step}
 use Rattle.model.specs.Orders.{RaceFree, Calm, next_state, after}

@@ -1,10 +1,10 @@
 -- A whole order: how it begins, and what its end says of all orders.
-use Rattle.std.proofs.Common.{◌≡◌, ℕ, ◌≤◌, Bool, true, false, List, [], ◌∷◌, length, replicate, sym, refl, ap, ◌∙◌, subst, subst₂, true≢false}
+use Rattle.std.proofs.Common.{◌≡◌, ℕ, ◌≤◌, Bool, List, [], ◌∷◌, length, replicate, sym, refl, subst, true≢false}
 use mathlib.Core.Bool.{false≢true}
 use Rattle.std.proofs.lemmas.List.{length-replicate}
 use Rattle.model.specs.Kernel.{Kernel}
 use Rattle.model.specs.Rows.{Rows}
-use Rattle.model.specs.Steps.{Thread, State, going, Step, Ended, begin}
+use Rattle.model.specs.Steps.{State, going, Step, Ended, begin}
 use Rattle.model.specs.Orders.{RaceFree, Calm}
 use Rattle.model.proofs.Chains.{forget}
 use Rattle.model.proofs.Orders.{any_order, one_order_tells, calm_drags}

@@ -1,9 +1,8 @@
 -- What `draw_order` promises.
-use Rattle.std.specs.Prelude.{◌≡◌, ℕ, ◌*◌, ◌<◌, ◌≤◌, Bool, ◌⊎◌, List, length}
+use Rattle.std.specs.Prelude.{◌≡◌, ℕ, ◌*◌, ◌≤◌, List, length}
 use Rattle.model.specs.Kernel.{Kernel}
 use Rattle.model.specs.Rows.{Rows, OneKernel}
 use Rattle.model.specs.Orders as orders
-use Rattle.rows.specs.declared.refusals.Refusal.{Refusal}
 use Rattle.ledger.specs.Runs.{LedgerTells, ledger_words}
 use Rattle.kernel.specs.declared.drawn.Lent.{Lent}
 use Rattle.kernel.specs.declared.drawn.Drawn.{Drawn}

@@ -1,4 +1,4 @@
-// The tests of the crate kernel: the worked examples, each by `run`, in twenty drawn orders and led step by step, and too
+// The tests of the crate kernel: the worked examples, each in twenty drawn orders, by `run` and led step by step, and too
 // little lent memory. They stand apart, since a crate with tests is proved once more for them.
 #![tactic(auto)]
 
@@ -110,56 +110,68 @@ pub fn runs_no_text(heap: Global, case: Case) -> Result<bool, AllocError> {
     Ok(matches!(left.ran, Ran::NoKernel) && untouched(&left, case))
 }
 
-// What one drawn order comes to and leaves.
-#[derive(Drop)]
-pub struct Order {
-    pub drawn: Drawn,
-    pub memory: Vec<u32>,
-    pub states: Vec<u8>,
-}
-
-// Runs the case in an order that is drawn, with no more lent than it takes.
-pub fn one_order(heap: Global, case: Case, draw: &mut Draw) -> Result<Order, AllocError> {
+// Whether each of twenty orders ends with a clash, or each without one and with this memory and these states.
+pub fn each_order(
+    heap: Global,
+    case: Case,
+    clash: bool,
+    left: &[u32],
+    states: &[u8],
+) -> Result<bool, AllocError> {
     let mut ends = vec![in heap; 0; case.rows.len()]?;
     let mut marks = vec![in heap; 0; case.memory.len().max(1).saturating_mul(2)]?;
-    let mut work = vec![in heap; 0; 528 * case.threads as usize]?;
-    let mut states = vec![in heap; 9u8; case.threads as usize]?;
-    let mut memory = case.memory.to_vec(heap)?;
-    let drawn = draw_order(
-        case.rows,
-        &mut ends,
-        case.threads,
-        case.turns,
-        &mut memory,
-        &mut states,
-        &mut work,
-        &mut marks,
-        draw,
-    );
-    Ok(Order {
-        drawn,
-        memory,
-        states,
-    })
-}
-
-// Whether each of twenty orders clashes if `run` is to find a clash, and else ends without one in what is expected.
-pub fn each_order(heap: Global, case: Case, expected: Expected) -> Result<bool, AllocError> {
+    let mut work = vec![in heap; 0; 1024 * case.threads as usize]?;
+    let mut told = vec![in heap; 9u8; case.threads as usize]?;
     let mut draw = Draw::new(1);
     for _ in 0..20 {
-        let order = one_order(heap, case, &mut draw)?;
-        let so = match (order.drawn, expected) {
-            (Drawn::Ended(clashed), Expected::Even(left, states)) => {
-                !clashed && *order.memory.as_slice() == *left && *order.states.as_slice() == *states
-            }
-            (Drawn::Ended(clashed), Expected::Uneven(_, _, _)) => clashed,
-            _ => false,
+        let mut memory = case.memory.to_vec(heap)?;
+        let drawn = draw_order(
+            case.rows,
+            &mut ends,
+            case.threads,
+            case.turns,
+            &mut memory,
+            &mut told,
+            &mut work,
+            &mut marks,
+            &mut draw,
+        );
+        let Drawn::Ended(clashed) = drawn else {
+            return Ok(false);
         };
-        if !so {
+        let alike = clash || (*memory.as_slice() == *left && *told.as_slice() == *states);
+        if clashed != clash || !alike {
             return Ok(false);
         }
     }
     Ok(true)
+}
+
+// Whether some of twenty orders leaves this memory.
+pub fn some_order(heap: Global, case: Case, left: &[u32]) -> Result<bool, AllocError> {
+    let mut ends = vec![in heap; 0; case.rows.len()]?;
+    let mut marks = vec![in heap; 0; case.memory.len().max(1).saturating_mul(2)]?;
+    let mut work = vec![in heap; 0; 1024 * case.threads as usize]?;
+    let mut told = vec![in heap; 9u8; case.threads as usize]?;
+    let mut draw = Draw::new(1);
+    for _ in 0..20 {
+        let mut memory = case.memory.to_vec(heap)?;
+        let _ = draw_order(
+            case.rows,
+            &mut ends,
+            case.threads,
+            case.turns,
+            &mut memory,
+            &mut told,
+            &mut work,
+            &mut marks,
+            &mut draw,
+        );
+        if *memory.as_slice() == *left {
+            return Ok(true);
+        }
+    }
+    Ok(false)
 }
 
 // Whether the order of `run`, led step by step, ends in the memory that is expected, or meets the clash again. It is lent
@@ -188,24 +200,9 @@ pub fn led_so(heap: Global, case: Case, expected: Expected) -> Result<bool, Allo
     })
 }
 
-// Whether `run`, the drawn orders and the order of `run` step by step all come to what is expected.
+// Whether `run`, and its order led step by step, both come to what is expected.
 pub fn agree(heap: Global, case: Case, expected: Expected) -> Result<bool, AllocError> {
-    Ok(
-        runs_so(heap, case, expected)?
-            && each_order(heap, case, expected)?
-            && led_so(heap, case, expected)?,
-    )
-}
-
-// Whether some of twenty orders leaves this memory.
-pub fn some_order(heap: Global, case: Case, left: &[u32]) -> Result<bool, AllocError> {
-    let mut draw = Draw::new(1);
-    for _ in 0..20 {
-        if *one_order(heap, case, &mut draw)?.memory.as_slice() == *left {
-            return Ok(true);
-        }
-    }
-    Ok(false)
+    Ok(runs_so(heap, case, expected)? && led_so(heap, case, expected)?)
 }
 
 // Whether an order is refused with so much lent for the sum by two threads.
@@ -263,6 +260,100 @@ mod tests {
     fn sums(rt: HostRuntime) -> Result<(), Fail> {
         let heap = rt.alloc();
         let sum = case(&[1, 1, 3, 0, 2, 1, 8, 5, 0, 0, 1, 0], 2, 9, &[5, 7]);
+        assert!(rt; each_order(heap, sum, false, &[17, 7], &[2, 2])?);
+        let no_wait = case(&[1, 1, 3, 0, 2, 5, 0, 0, 1, 0], 2, 9, &[5, 7]);
+        assert!(rt; each_order(heap, no_wait, true, &[], &[])?);
+        let many = case(&[0, 5, 0, 0, 0, 1], 500, 1, &[4_294_967_000]);
+        let ended = vec![in heap; 2u8; 500]?;
+        assert!(rt; each_order(heap, many, false, &[204], ended.as_slice())?);
+        Ok(())
+    }
+
+    #[test]
+    fn writes(rt: HostRuntime) -> Result<(), Fail> {
+        let heap = rt.alloc();
+        let rows = [0, 4, 0, 0, 2];
+        assert!(rt; each_order(heap, case(&rows, 2, 1, &[9]), true, &[], &[])?);
+        assert!(rt; each_order(heap, case(&rows, 1, 1, &[9]), false, &[0], &[2])?);
+        assert!(rt; each_order(heap, case(&rows, 2, 1, &[]), true, &[], &[])?);
+        let operations = case(
+            &[0, 1, 4, 0, 0, 4, 4, 0, 9, 0, 0, 4, 0, 1, 4, 1, 0, 0, 0, 1],
+            1,
+            1,
+            &[0, 0],
+        );
+        assert!(rt; each_order(heap, operations, false, &[9, 4_294_967_295], &[2])?);
+        Ok(())
+    }
+
+    #[test]
+    fn turns_and_waits(rt: HostRuntime) -> Result<(), Fail> {
+        let heap = rt.alloc();
+        assert!(rt;
+            each_order(
+                heap,
+                case(&[0, 7, 0, 1, 0], 3, 5, &[]),
+                false,
+                &[],
+                &[3, 3, 3],
+            )?
+        );
+        let half = case(&[0, 6, 2, 8, 7, 0, 1, 0], 2, 5, &[]);
+        assert!(rt; each_order(heap, half, false, &[], &[3, 2])?);
+        let broadcast = case(
+            &[
+                1, 1, 6, 2, 0, 4, 0, 0, 0, 7, 1, 8, 1, 3, 0, 0, 0, 1, 8, 4, 2, 1, 0,
+            ],
+            3,
+            1,
+            &[0, 0, 0],
+        );
+        assert!(rt; each_order(heap, broadcast, false, &[7, 7, 7], &[2, 2, 2])?);
+        Ok(())
+    }
+
+    #[test]
+    fn rotations(rt: HostRuntime) -> Result<(), Fail> {
+        let heap = rt.alloc();
+        let memory = [0; 4];
+        assert!(rt;
+            each_order(
+                heap,
+                case(&ROTATE, 4, 1, &memory),
+                false,
+                &[1, 2, 3, 0],
+                &[2; 4],
+            )?
+        );
+        assert!(rt; each_order(heap, case(&ROTATE_NO_WAIT, 4, 1, &memory), true, &[], &[])?);
+        Ok(())
+    }
+
+    // Both threads write their number to one word: whichever is last is drawn, and each is at times.
+    #[test]
+    fn each_thread_is_drawn_last(rt: HostRuntime) -> Result<(), Fail> {
+        let heap = rt.alloc();
+        let write = case(&[0, 4, 0, 0, 2], 2, 1, &[9]);
+        assert!(rt; some_order(heap, write, &[0])?);
+        assert!(rt; some_order(heap, write, &[1])?);
+        Ok(())
+    }
+
+    #[test]
+    fn too_little_lent(rt: HostRuntime) -> Result<(), Fail> {
+        let heap = rt.alloc();
+        assert!(rt; !few(heap, 12, 2, 2048, 4)?);
+        assert!(rt; few(heap, 11, 2, 2048, 4)?);
+        assert!(rt; few(heap, 12, 1, 2048, 4)?);
+        assert!(rt; few(heap, 12, 2, 2047, 4)?);
+        assert!(rt; few(heap, 12, 2, 2048, 3)?);
+        Ok(())
+    }
+
+    #[test]
+    fn runs_of_sums(rt: HostRuntime) -> Result<(), Fail> {
+        let heap = rt.alloc();
+        let sum = case(&[1, 1, 3, 0, 2, 1, 8, 5, 0, 0, 1, 0], 2, 9, &[5, 7]);
         assert!(rt; agree(heap, sum, Expected::Even(&[17, 7], &[2, 2]))?);
         let no_wait = case(&[1, 1, 3, 0, 2, 5, 0, 0, 1, 0], 2, 9, &[5, 7]);
         assert!(rt; agree(heap, no_wait, Expected::Uneven(0, 1, 0))?);
@@ -273,7 +364,7 @@ mod tests {
     }
 
     #[test]
-    fn writes(rt: HostRuntime) -> Result<(), Fail> {
+    fn runs_of_writes(rt: HostRuntime) -> Result<(), Fail> {
         let heap = rt.alloc();
         let rows = [0, 4, 0, 0, 2];
         assert!(rt; agree(heap, case(&rows, 2, 1, &[9]), Expected::Uneven(0, 1, 0))?);
@@ -290,7 +381,7 @@ mod tests {
     }
 
     #[test]
-    fn turns_and_waits(rt: HostRuntime) -> Result<(), Fail> {
+    fn runs_of_turns_and_waits(rt: HostRuntime) -> Result<(), Fail> {
         let heap = rt.alloc();
         let turns = case(&[0, 7, 0, 1, 0], 3, 5, &[]);
         assert!(rt; agree(heap, turns, Expected::Even(&[], &[3, 3, 3]))?);
@@ -309,7 +400,7 @@ mod tests {
     }
 
     #[test]
-    fn rotations(rt: HostRuntime) -> Result<(), Fail> {
+    fn runs_of_rotations(rt: HostRuntime) -> Result<(), Fail> {
         let heap = rt.alloc();
         let memory = [0; 4];
         let rotated = Expected::Even(&[1, 2, 3, 0], &[2; 4]);
@@ -324,26 +415,13 @@ mod tests {
         Ok(())
     }
 
-    // Both threads write their number to one word: whichever is last is drawn, and each is at times.
-    #[test]
-    fn each_thread_is_drawn_last(rt: HostRuntime) -> Result<(), Fail> {
-        let heap = rt.alloc();
-        let write = case(&[0, 4, 0, 0, 2], 2, 1, &[9]);
-        assert!(rt; some_order(heap, write, &[0])?);
-        assert!(rt; some_order(heap, write, &[1])?);
-        Ok(())
-    }
-
     // With no threads nothing is run, and all is left as it is.
     #[test]
     fn no_threads(rt: HostRuntime) -> Result<(), Fail> {
-        assert!(rt;
-            agree(
-                rt.alloc(),
-                case(&[0, 4, 0, 0, 2], 0, 1, &[9]),
-                Expected::Even(&[9], &[]),
-            )?
-        );
+        let heap = rt.alloc();
+        let nobody = case(&[0, 4, 0, 0, 2], 0, 1, &[9]);
+        assert!(rt; each_order(heap, nobody, false, &[9], &[])?);
+        assert!(rt; agree(heap, nobody, Expected::Even(&[9], &[]))?);
         Ok(())
     }
 
@@ -377,17 +455,6 @@ mod tests {
         }
         assert!(rt; runs_few(heap, case(&[0, 77], 1, 9, &[]), 0, 100_000)?);
         assert!(rt; runs_few(heap, case(&[0, 0], 4_294_967_295, 9, &[]), 8, 8)?);
-        Ok(())
-    }
-
-    #[test]
-    fn too_little_lent_for_an_order(rt: HostRuntime) -> Result<(), Fail> {
-        let heap = rt.alloc();
-        assert!(rt; !few(heap, 12, 2, 1056, 4)?);
-        assert!(rt; few(heap, 11, 2, 1056, 4)?);
-        assert!(rt; few(heap, 12, 1, 1056, 4)?);
-        assert!(rt; few(heap, 12, 2, 1055, 4)?);
-        assert!(rt; few(heap, 12, 2, 1056, 3)?);
         Ok(())
     }
 }

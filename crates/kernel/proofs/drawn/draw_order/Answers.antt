@@ -1,4 +1,4 @@
-use Rattle.std.proofs.Common.{refl, arith}
+use Rattle.std.proofs.Common.{refl}
 use Rattle.kernel.proofs.Decoded.{some_decoded}
 use Rattle.kernel.proofs.Outcomes.{too_few, no_text, ended, ended_whole}
 use Rattle.kernel.proofs.drawn.draw_order.Goals as goal
