@@ -27,6 +27,7 @@ NAME = r"[A-Za-z][A-Za-z0-9_'₀-₉]*(?:-[A-Za-z0-9_'₀-₉]+)+"
 HYPHENED = re.compile(rf"(?<![\w'\-◌])(?:{NAME}|[A-Z][A-Za-z0-9']*_[\w']+)(?![\w'◌])")
 DECLARED = re.compile(rf"(?m)^\s*(?:pub )?(?:abbrev )?(?:pub )?(?:record |data |ruleset |let )?({NAME}|[A-Z][a-z]\w*_\w+)(?: \{{.*?\}})*(?: \([^=\n]*?\))* :(?!=)(.*)")
 BOUND = re.compile(rf"(?:λ|let|\(|\{{)((?:\s+|(?<=[({{]))[\w' ₀-₉-]*{NAME}[\w' ₀-₉-]*)(?=[.:=)])")
+ALIAS = re.compile(rf"\bas ({NAME})(?=[,}}\s])")
 USE = re.compile(r"\buse ([^\s;{]+)(?:\{([^}]*)\})?")
 WALKED = re.compile(r"/proofs/(?:.*/)?(?:Answers|Invariants|Proof)\.antt$")
 LABEL = re.compile(rf"(?<![\w'.\-])((?:c|l|w|g|goal)\.)({NAME})")
@@ -53,6 +54,7 @@ def own_crates(root):
 def imported(text, crates):
     """The names that a file takes from the library."""
     found = set()
+    text = ALIAS.sub("", text)
     for m in USE.finditer(text):
         parts = m[1].split(".")
         if parts[0] == "Rattle" and len(parts) > 1 and parts[1] in crates:
@@ -75,6 +77,7 @@ def declared(root):
     for path in files(root, (".antt",)):
         text = read(path)
         theirs |= imported(text, crates)
+        names |= set(ALIAS.findall(text))
         for m in DECLARED.finditer(text):
             if not re.match(r"\s*(goal|given)\.", m[2]):
                 names.add(m[1])

@@ -50,14 +50,14 @@ pub record OneMore (By By' : ℕ → Access → Type 0) (i : ℕ) (h : Access) :
 
 -- a mark tells of no clash
 pub told_apart : {now : ℕ} {m : Mark} {By : ℕ → Access → Type 0} → Told now m By → (i j : ℕ) (h k : Access) → (i ≡ j → ⊥) → By i h → By j k → together h k ≡ false → ⊥
-told_apart {now} {m} {By} told i j h k differ by_i by-j apart = elim (ℕ_discrete m.stamp now) [
+told_apart {now} {m} {By} told i j h k differ by_i by_j apart = elim (ℕ_discrete m.stamp now) [
   | no old ↦ told.old old i h by_i
   | yes e ↦ go (told.current e) m.shared refl
 ]
   where
     go : Marked m By → (b : Bool) → m.shared ≡ b → ⊥
-    go marked false s = differ (marked.alone s i h by_i ∙ sym (marked.alone s j k by-j))
-    go marked true s = false≢true (sym apart ∙ marked.alike s h k (marked.told i h by_i) (marked.told j k by-j))
+    go marked false s = differ (marked.alone s i h by_i ∙ sym (marked.alone s j k by_j))
+    go marked true s = false≢true (sym apart ∙ marked.alike s h k (marked.told i h by_i) (marked.told j k by_j))
 
 -- it says the same of the same touches
 pub told_same : {now : ℕ} {m : Mark} {By By' : ℕ → Access → Type 0} → Told now m By → ((j : ℕ) (k : Access) → By j k → By' j k) → ((j : ℕ) (k : Access) → By' j k → By j k) → Told now m By'

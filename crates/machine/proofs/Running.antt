@@ -9,7 +9,7 @@ use Rattle.machine.specs.declared.thread.Status.TheVariants.{Going, Waiting, End
 use Rattle.rows.specs.declared.decoder.Text.{Text}
 use Rattle.rows.specs.Decoded.{Decoded}
 use Rattle.machine.specs.declared.release.Released.{Released}
-use Rattle.machine.specs.declared.release.Released.TheVariants.{Nobody, Waiting as Released-as-Waiting, End}
+use Rattle.machine.specs.declared.release.Released.TheVariants.{Nobody, Waiting as ReleasedAsWaiting, End}
 use Rattle.machine.specs.declared.touched.Touched.{Touched}
 use Rattle.machine.specs.Stands.{Source}
 use Rattle.machine.specs.Words.{status_as}
@@ -76,7 +76,7 @@ running_released {s} {work} {work'} {m} {n} {r} release run = go r (release.each
   where
     go : (r : Released) → ReleasedAs s work work' run.state.threads r → Running s work' m n
     go Nobody h = stays run h.1
-    go Released-as-Waiting h = go_on run h.2
+    go ReleasedAsWaiting h = go_on run h.2
     go End h = stays run h.2
 
 pub running_resumed : {s : Source} {work work' m : List ℕ} {n : ℕ} {r : Bool} → Resumed work work' n r → Running s work m n → Running s work' m n

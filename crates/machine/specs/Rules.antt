@@ -1,6 +1,6 @@
 -- What a step does to the words, by the head of the statement that it takes: a rule for each head.
 use Rattle.std.specs.Prelude.{◌≡◌, ℕ, ◌+◌, ◌-◌, ◌<◌, ◌≤◌, cond, List, [], ◌∷◌, length, take, ◌==◌, slice_index, slice_index_or, slice_set}
-use Rattle.model.specs.Kernel.{Expr, Change as Model-change, write, add, changed, value, place}
+use Rattle.model.specs.Kernel.{Expr, Change as ModelChange, write, add, changed, value, place}
 use Rattle.model.specs.Rows.{expr_depth}
 use Rattle.model.specs.Steps.{Access as How, reading, changing, Touch}
 use Rattle.rows.specs.declared.head.Statement.{Statement}
@@ -15,7 +15,7 @@ use Rattle.machine.specs.declared.touched.Who.{Who}
 use Rattle.machine.specs.Stands.{Source, ExprStands, EndsAt, end}
 use Rattle.machine.specs.Words.{popped, pushed}
 
-abbrev pub change_of : Change → Model-change
+abbrev pub change_of : Change → ModelChange
 change_of Writes = write
 change_of Adds = add
 
@@ -70,7 +70,7 @@ module _ (s : Source) (who : Who) (p : ℕ) (w w' : List ℕ) where
     pub words_are : w' ≡ popped (slice_set w x (slice_index m (place a (length m))))
     pub touched : touches r ≡ record { at = place a (length m); how = reading } ∷ []
 
-  pub record HasChanged (m m' : List ℕ) (c : Model-change) (r : Touched) : Type 0 where
+  pub record HasChanged (m m' : List ℕ) (c : ModelChange) (r : Touched) : Type 0 where
     pub a : ℕ
     pub v : ℕ
     pub is_place : ValueOf s w who (p + 1) a

@@ -3,7 +3,7 @@ use Rattle.std.specs.Prelude.{◌≡◌, ℕ, ◌≤◌, length}
 use Rattle.model.specs.declared.Op.{Op}
 use Rattle.model.specs.Kernel.{Expr, op, value}
 use Rattle.model.specs.Rows.{expr_depth}
-use Rattle.rows.specs.declared.head.Expression.TheVariants.{Operation as Head-operation}
+use Rattle.rows.specs.declared.head.Expression.TheVariants.{Operation as HeadOperation}
 use Rattle.machine.specs.declared.expression.Operand.{Operand}
 use Rattle.machine.specs.declared.expression.Operand.TheVariants.{Value, Operation}
 use Rattle.machine.specs.declared.expression.Seen.{Seen}
@@ -46,4 +46,4 @@ pub record Valued (s : Source) (v : Seen) (p x : ℕ) : Type 0 where
 -- the value of what stands at p, or that it is an operation
 abbrev pub FoundAt : Source → Seen → ℕ → Operand → Type 0
 FoundAt s v p (Value x) = Valued s v p x
-FoundAt s v p Operation = (o : Op) × (Head-operation o ≡ expression_at s p)
+FoundAt s v p Operation = (o : Op) × (HeadOperation o ≡ expression_at s p)

@@ -38,10 +38,10 @@ meets b s t c calm free r =
 
 -- from any state b: all orders end alike
 pub one_end : (b s t : State) → ((u : State) → Reaches b u → RaceFree u) → Reaches b s → Reaches b t → Ended s → Ended t → s ≡ t
-one_end b s t free p q end-s end-t =
+one_end b s t free p q end_s end_t =
     let calm = along RaceFree Step p.0 b s (λ n u r. free u (n, r)) p.1 in
-    let rest = calm_drags b t s p.0 calm end-s q in
-    sym (at_end rest.0 t s end-t rest.1)
+    let rest = calm_drags b t s p.0 calm end_s q in
+    sym (at_end rest.0 t s end_t rest.1)
 
 pub any_order : AnyOrder
 any_order k n turns m free s t = one_end (begin k n turns m) s t (λ u r (i, j, a, race). free (u, i, j, a, r, race))
