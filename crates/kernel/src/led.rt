@@ -92,7 +92,7 @@ fn turn(
     stamp: Stamp,
 ) -> Next
     requires { SomeRun (source script.now) threads (board work.old memory.old marks.old (Quiet stamp)) }
-    ensures { GoneOn (source script.now) threads (board work.old memory.old marks.old (Quiet stamp)) (λ now-stamp. board work.new memory.new marks.new (Quiet now-stamp)) result }
+    ensures { GoneOn (source script.now) threads (board work.old memory.old marks.old (Quiet stamp)) (λ new_stamp. board work.new memory.new marks.new (Quiet new_stamp)) result }
 {
     if let Some(thread) = next_going(work, threads, 0) {
         return match step_on(script, threads, thread, memory, work, marks, stamp) {
