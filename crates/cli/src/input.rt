@@ -1,6 +1,7 @@
 // The words that a program runs on, read from its files into one buffer.
-ghost use Rattle.std.specs.Prelude.{◌≡◌, ◌+◌, ◌^◌, ◌<◌, ◌≤◌, length, IfOk, vec_len};
-ghost use Rattle.words.specs.Budget.{besides, besides_rows};
+ghost use Rattle.std.specs.Prelude.{◌≡◌, ℕ, ◌+◌, ◌^◌, ◌<◌, ◌≤◌, false, length, is_ok, IfOk, vec_len};
+ghost use Rattle.words.specs.Budget.{bare, besides, besides_rows};
+ghost use Rattle.words.specs.declared.budget.Task.TheVariants.{Run};
 
 use crate::fault::{Fault, FileName};
 use crate::options::Options;
@@ -66,7 +67,10 @@ pub fn read_words(
 
 impl Input {
     /// Reads the files that the options name. To run once with threads that pass the budget with no words at all is refused before.
-    pub fn read(rt: &HostRuntime, options: &Options, task: Task) -> Result<Input, Fault> {
+    pub fn read(rt: &HostRuntime, options: &Options, task: Task) -> Result<Input, Fault>
+        ensures many { (threads : ℕ) → task ≡ Run threads → 4194304 < bare task → is_ok result ≡ false }
+        ensures rest { IfOk result (λ i. (i.memory < 2 ^ 32 → i.rows < 2 ^ 32 → i.rest ≡ besides task i.memory + besides_rows task i.rows)) }
+    {
         if let Task::Run(threads) = task
             && !fits(task)
         {

@@ -1,6 +1,8 @@
 // The tests of the crates words and cli. They stand apart, since a crate with tests is proved once more for them.
 #![tactic(auto)]
 
+ghost use Rattle.std.specs.Prelude.{◌≤◌, vec_len};
+
 use cli::fault::{Fault, FileName};
 use cli::flag::Flag;
 use cli::input::{Input, read_words};
@@ -11,7 +13,9 @@ use words::flaw::Stop;
 use words::scanner::{Scanner, keep};
 
 /// Reads a text as it would come from a file, a few bytes at a time.
-pub fn scan(text: &str, words: &mut Vec<u32>, most: usize) -> Result<(), Stop> {
+pub fn scan(text: &str, words: &mut Vec<u32>, most: usize) -> Result<(), Stop>
+    ensures { vec_len words.old ≤ most → vec_len words.new ≤ most }
+{
     let mut scanner = Scanner::new();
     for piece in text.as_bytes().chunks(3) {
         scanner.feed_all(piece, words, most)?;

@@ -2,6 +2,9 @@
 // little lent memory. They stand apart, since a crate with tests is proved once more for them.
 #![tactic(auto)]
 
+ghost use Rattle.std.specs.Prelude.{◌≡◌, ◌^◌, ◌<◌, length};
+ghost use Rattle.kernel.specs.Says.{floor as words_asked};
+
 use kernel::draw::Draw;
 use kernel::drawn::{Drawn, draw_order};
 use kernel::led::{Led, lead};
@@ -54,7 +57,9 @@ pub fn run_lent(heap: Global, case: Case, bytes: usize, words: usize) -> Result<
 }
 
 // How many work words the case asks for.
-pub fn floor(case: Case) -> usize {
+pub fn floor(case: Case) -> usize
+    ensures { length case.entry.rows.now < 2 ^ 32 → length case.entry.memory.now < 2 ^ 32 → result ≡ words_asked (length case.entry.rows.now) (length case.entry.memory.now) case.entry.threads }
+{
     (1024 * case.threads as usize + 4096)
         .saturating_add(case.rows.len().saturating_mul(8))
         .saturating_add(case.memory.len().saturating_mul(4))
@@ -110,6 +115,45 @@ pub fn runs_no_text(heap: Global, case: Case) -> Result<bool, AllocError> {
     Ok(matches!(left.ran, Ran::NoKernel) && untouched(&left, case))
 }
 
+// What drawn orders of a case are lent, with no more than they take. Each finds what the one before it left.
+#[derive(Drop)]
+struct Desk {
+    ends: Vec<u32>,
+    marks: Vec<u32>,
+    work: Vec<u32>,
+    states: Vec<u8>,
+    draw: Draw,
+}
+
+impl Desk {
+    fn new(heap: Global, case: Case) -> Result<Desk, AllocError> {
+        Ok(Desk {
+            ends: vec![in heap; 0; case.rows.len()]?,
+            marks: vec![in heap; 0; case.memory.len().max(1).saturating_mul(2)]?,
+            work: vec![in heap; 0; 1024 * case.threads as usize]?,
+            states: vec![in heap; 9u8; case.threads as usize]?,
+            draw: Draw::new(1),
+        })
+    }
+
+    // Runs the case in one more order, and gives what came of it and the memory that it left.
+    fn run_order(&mut self, heap: Global, case: Case) -> Result<(Drawn, Vec<u32>), AllocError> {
+        let mut memory = case.memory.to_vec(heap)?;
+        let drawn = draw_order(
+            case.rows,
+            &mut self.ends,
+            case.threads,
+            case.turns,
+            &mut memory,
+            &mut self.states,
+            &mut self.work,
+            &mut self.marks,
+            &mut self.draw,
+        );
+        Ok((drawn, memory))
+    }
+}
+
 // Whether each of twenty orders ends with a clash, or each without one and with this memory and these states.
 pub fn each_order(
     heap: Global,
@@ -118,28 +162,13 @@ pub fn each_order(
     left: &[u32],
     states: &[u8],
 ) -> Result<bool, AllocError> {
-    let mut ends = vec![in heap; 0; case.rows.len()]?;
-    let mut marks = vec![in heap; 0; case.memory.len().max(1).saturating_mul(2)]?;
-    let mut work = vec![in heap; 0; 1024 * case.threads as usize]?;
-    let mut told = vec![in heap; 9u8; case.threads as usize]?;
-    let mut draw = Draw::new(1);
+    let mut desk = Desk::new(heap, case)?;
     for _ in 0..20 {
-        let mut memory = case.memory.to_vec(heap)?;
-        let drawn = draw_order(
-            case.rows,
-            &mut ends,
-            case.threads,
-            case.turns,
-            &mut memory,
-            &mut told,
-            &mut work,
-            &mut marks,
-            &mut draw,
-        );
+        let (drawn, memory) = desk.run_order(heap, case)?;
         let Drawn::Ended(clashed) = drawn else {
             return Ok(false);
         };
-        let alike = clash || (*memory.as_slice() == *left && *told.as_slice() == *states);
+        let alike = clash || (*memory.as_slice() == *left && *desk.states.as_slice() == *states);
         if clashed != clash || !alike {
             return Ok(false);
         }
@@ -149,24 +178,9 @@ pub fn each_order(
 
 // Whether some of twenty orders leaves this memory.
 pub fn some_order(heap: Global, case: Case, left: &[u32]) -> Result<bool, AllocError> {
-    let mut ends = vec![in heap; 0; case.rows.len()]?;
-    let mut marks = vec![in heap; 0; case.memory.len().max(1).saturating_mul(2)]?;
-    let mut work = vec![in heap; 0; 1024 * case.threads as usize]?;
-    let mut told = vec![in heap; 9u8; case.threads as usize]?;
-    let mut draw = Draw::new(1);
+    let mut desk = Desk::new(heap, case)?;
     for _ in 0..20 {
-        let mut memory = case.memory.to_vec(heap)?;
-        let _ = draw_order(
-            case.rows,
-            &mut ends,
-            case.threads,
-            case.turns,
-            &mut memory,
-            &mut told,
-            &mut work,
-            &mut marks,
-            &mut draw,
-        );
+        let (_, memory) = desk.run_order(heap, case)?;
         if *memory.as_slice() == *left {
             return Ok(true);
         }

@@ -1,13 +1,15 @@
 // The tests of the crate rows. They stand apart, since a crate with tests is proved once more for them.
 #![tactic(auto)]
 
-ghost use Rattle.std.specs.Prelude.{◌<◌, ◌≤◌};
+ghost use Rattle.std.specs.Prelude.{◌≡◌, ◌<◌, ◌≤◌, ◌∷◌, IfOk};
 
 use rows::{Fault, decode};
 use std::alloc::{AllocError, Global};
 
 // A text that says so many variables and has such a body.
-pub fn text_of(heap: Global, variables: u32, body: &[u32]) -> Result<Vec<u32>, AllocError> {
+pub fn text_of(heap: Global, variables: u32, body: &[u32]) -> Result<Vec<u32>, AllocError>
+    ensures { IfOk result (λ v. v.items ≡ variables ∷ body.now) }
+{
     let mut rows = Vec::new(heap);
     rows.push(variables)?;
     rows.extend_from_slice(body)?;
