@@ -6,15 +6,9 @@
 ghost use Rattle.std.specs.Prelude.{◌≡◌};
 ghost use Rattle.answer.specs.States.{in_state};
 
-use model::{Place, ThreadId};
+use model::{Clash, Place, Status, ThreadId};
 use rows::{Fault, Refusal, Text};
 use std::fmt;
-
-/// What stands for a thread that ended.
-const ENDED: u8 = 2;
-
-/// What stands for a thread that is out of turns.
-const OUT_OF_TURNS: u8 = 3;
 
 /// The size of a text.
 #[derive(Clone, Copy)]
@@ -22,10 +16,12 @@ pub struct Size(pub Text);
 
 impl fmt::Display for Size {
     fn fmt<W: fmt::Write>(&self, f: &mut fmt::Formatter<W>) -> fmt::Result {
-        let variables = self.0.variables;
-        let statements = self.0.statements;
-        let words = self.0.words;
-        let deep = self.0.deep;
+        let Text {
+            variables,
+            statements,
+            words,
+            deep,
+        } = self.0;
         write!(
             f,
             "text: {variables} variables, {statements} statements, {words} words, {deep} deep"
@@ -41,6 +37,7 @@ pub struct NoText<'a> {
 }
 
 impl NoText<'_> {
+    // The reasons are told here and not where `rows` declares them, since one of them reads the rows.
     fn why<W: fmt::Write>(&self, f: &mut fmt::Formatter<W>) -> fmt::Result {
         match self.refusal.why {
             Fault::EndsEarly => f.write_str("ends too early"),
@@ -71,8 +68,21 @@ impl fmt::Display for NoText<'_> {
     }
 }
 
+/// Items one behind the other, with a blank before each.
+#[derive(Clone, Copy)]
+struct Listed<'a, T>(&'a [T]);
+
+impl<T: fmt::Display> fmt::Display for Listed<'_, T> {
+    fn fmt<W: fmt::Write>(&self, f: &mut fmt::Formatter<W>) -> fmt::Result {
+        for item in self.0 {
+            write!(f, " {item}")?;
+        }
+        Ok(())
+    }
+}
+
 /// What a run leaves: the words of the memory, and a number for each thread.
-#[derive(Drop)]
+#[derive(Clone, Copy, PartialEq)]
 pub struct Left<'a> {
     pub memory: &'a [u32],
     pub states: &'a [u8],
@@ -80,15 +90,9 @@ pub struct Left<'a> {
 
 impl fmt::Display for Left<'_> {
     fn fmt<W: fmt::Write>(&self, f: &mut fmt::Formatter<W>) -> fmt::Result {
-        f.write_str("memory:")?;
-        for word in self.memory {
-            write!(f, " {word}")?;
-        }
-        f.write_str("\nstates:")?;
-        for state in self.states {
-            write!(f, " {state}")?;
-        }
-        Ok(())
+        let memory = Listed(self.memory);
+        let states = Listed(self.states);
+        write!(f, "memory:{memory}\nstates:{states}")
     }
 }
 
@@ -96,13 +100,7 @@ impl fmt::Display for Left<'_> {
 fn threads_in(state: u8, states: &[u8]) -> usize
     ensures { result ≡ in_state state states.now }
 {
-    let mut count = 0;
-    for each in states {
-        if *each == state {
-            count += 1;
-        }
-    }
-    count
+    states.iter().filter(|each| **each == state).count()
 }
 
 /// A text is even, and its threads are left in these states.
@@ -111,25 +109,23 @@ pub struct Even<'a>(pub &'a [u8]);
 
 impl fmt::Display for Even<'_> {
     fn fmt<W: fmt::Write>(&self, f: &mut fmt::Formatter<W>) -> fmt::Result {
-        let ended = threads_in(ENDED, self.0);
-        let out = threads_in(OUT_OF_TURNS, self.0);
+        let ended = threads_in(Status::Ended as u8, self.0);
+        let out = threads_in(Status::OutOfTurns as u8, self.0);
         write!(f, "even: {ended} threads ended, {out} out of turns")
     }
 }
 
 /// A text is uneven: two threads clash at a place.
 #[derive(Clone, Copy)]
-pub struct Uneven {
-    pub first: ThreadId,
-    pub second: ThreadId,
-    pub place: Place,
-}
+pub struct Uneven(pub Clash);
 
 impl fmt::Display for Uneven {
     fn fmt<W: fmt::Write>(&self, f: &mut fmt::Formatter<W>) -> fmt::Result {
-        let ThreadId(first) = self.first;
-        let ThreadId(second) = self.second;
-        let Place(place) = self.place;
+        let Clash {
+            first: ThreadId(first),
+            second: ThreadId(second),
+            place: Place(place),
+        } = self.0;
         write!(
             f,
             "uneven: threads {first} and {second} clash at place {place}"
@@ -198,11 +194,11 @@ mod tests {
         ] {
             assert_eq!(rt; format!(in heap; "{}", Even(states))?.as_str(), told);
         }
-        let uneven = Uneven {
+        let uneven = Uneven(Clash {
             first: ThreadId(0),
             second: ThreadId(17),
             place: Place(4294967296),
-        };
+        });
         assert_eq!(rt;
             format!(in heap; "{uneven}")?.as_str(),
             "uneven: threads 0 and 17 clash at place 4294967296"

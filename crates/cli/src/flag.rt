@@ -4,7 +4,7 @@ ghost use Rattle.cli.specs.Options.{spelled};
 
 use std::fmt;
 
-#[derive(Clone, Copy, PartialEq)]
+#[derive(Clone, Copy, Debug, PartialEq)]
 pub enum Flag {
     Threads,
     Turns,
@@ -16,6 +16,7 @@ pub enum Flag {
 }
 
 /// The option that a word names.
+// The names stand here and in `Display`: with one list of them that is searched the clause `each` was not proved.
 pub fn flag_of(word: &str) -> Option<Flag>
     ensures only { IfSome result (λ f. word.now ≡ spelled f) }
     ensures each { (f : Flag) → word.now ≡ spelled f → result ≡ Some f }

@@ -1,8 +1,8 @@
 // What a program is asked to do, read from its arguments.
-ghost use Rattle.std.specs.Prelude.{◌≡◌, true, false, not, is_some, IfSome, is_ok, IfOk, None, Some, Ok, OnOk};
+ghost use Rattle.std.specs.Prelude.{◌≡◌, ◌+◌, ◌≤◌, ◌∷◌, true, false, not, is_some, is_ok, IfOk, None, Some, Ok, OnOk};
+ghost use Rattle.std.specs.Vec.Iter.{into_iter_items, into_iter_len};
 ghost use Rattle.std.specs.Option.{unwrap_or};
 ghost use Rattle.cli.specs.Options.{valued};
-ghost use Rattle.cli.specs.declared.options.Call.TheVariants.{Help, Run};
 ghost use Rattle.words.specs.Scan.{numeral};
 
 use crate::fault::Fault;
@@ -32,16 +32,9 @@ pub struct Trial {
     pub seed: u32,
 }
 
-/// What the arguments ask for.
-#[derive(Drop)]
-pub enum Call {
-    Help,
-    Run(Options),
-}
-
 /// The arguments so far.
-#[derive(Drop)]
-struct Given {
+#[derive(Default, Drop)]
+pub struct Given {
     help: bool,
     threads: Option<u32>,
     turns: Option<u32>,
@@ -58,10 +51,7 @@ pub fn count(flag: Flag, value: &str) -> Result<u32, Fault>
     ensures value { IfOk result (λ n. numeral value.now ≡ Some n) }
     ensures test { is_ok result ≡ is_some (numeral value.now) }
 {
-    match number(value.as_bytes()) {
-        Some(number) => Ok(number),
-        None => Err(Fault::NoNumber(flag, Quote::of(value))),
-    }
+    number(value.as_bytes()).ok_or_else(|| Fault::NoNumber(flag, Quote::of(value)))
 }
 
 /// Fills a slot once.
@@ -76,68 +66,57 @@ fn put<T: Drop>(slot: &mut Option<T>, flag: Flag, value: T) -> Result<(), Fault>
     Ok(())
 }
 
+/// The value of an option, which is the word behind it.
+fn value_of(flag: Flag, words: &mut Args) -> Result<String, Fault>
+    ensures value { IfOk result (λ v. into_iter_items words.old ≡ v ∷ into_iter_items words.new) }
+    ensures taken { OnOk result (into_iter_len words.new + 1 ≡ into_iter_len words.old) }
+    ensures fewer { into_iter_len words.new ≤ into_iter_len words.old }
+{
+    match words.next() {
+        Some(value) if !value.as_str().starts_with("--") => Ok(value),
+        _ => Err(Fault::NoValue(flag)),
+    }
+}
+
+fn count_of(flag: Flag, words: &mut Args) -> Result<u32, Fault>
+    ensures taken { OnOk result (into_iter_len words.new + 1 ≡ into_iter_len words.old) }
+    ensures fewer { into_iter_len words.new ≤ into_iter_len words.old }
+{
+    count(flag, value_of(flag, words)?.as_str())
+}
+
 impl Given {
-    fn none() -> Given {
-        Given {
-            help: false,
-            threads: None,
-            turns: None,
-            memory: None,
-            seed: None,
-            orders: None,
-            texts: None,
-            quiet: None,
-            rows: None,
-        }
-    }
-
-    /// Takes the value of an option that has one.
-    fn set(&mut self, flag: Flag, value: String) -> Result<(), Fault>
-        requires { valued flag ≡ true }
-    {
-        if value.as_str().starts_with("--") {
-            return Err(Fault::NoValue(flag));
-        }
-        match flag {
-            Flag::Threads => put(&mut self.threads, flag, count(flag, value.as_str())?),
-            Flag::Turns => put(&mut self.turns, flag, count(flag, value.as_str())?),
-            Flag::Memory => put(&mut self.memory, flag, value),
-            Flag::Seed => put(&mut self.seed, flag, count(flag, value.as_str())?),
-            Flag::Orders => put(&mut self.orders, flag, count(flag, value.as_str())?),
-            Flag::Texts => put(&mut self.texts, flag, count(flag, value.as_str())?),
-            Flag::Quiet => unreachable(),
-        }
-    }
-
-    /// Takes an option's name, and gives the option where its value is to come next.
-    fn name(&mut self, flag: Flag) -> Result<Option<Flag>, Fault>
-        ensures awaits { IfOk result (λ o. IfSome o (λ f. valued f ≡ true)) }
-        ensures valued { valued flag ≡ true → result ≡ Ok (Some flag) }
+    /// Takes an option, and the word behind it where it has a value. Each has a slot, of three types, so there is no table of them.
+    fn option(&mut self, flag: Flag, words: &mut Args) -> Result<(), Fault>
+        ensures valued { valued flag ≡ true → OnOk result (into_iter_len words.new + 1 ≡ into_iter_len words.old) }
+        ensures plain { valued flag ≡ false → into_iter_items words.new ≡ into_iter_items words.old }
+        ensures fewer { into_iter_len words.new ≤ into_iter_len words.old }
         ensures quiet { flag ≡ Flag.Quiet → OnOk result (self.new.quiet ≡ Some true) }
         ensures twice { flag ≡ Flag.Quiet → is_ok result ≡ not (is_some self.old.quiet) }
     {
         match flag {
-            Flag::Threads | Flag::Turns | Flag::Memory | Flag::Seed | Flag::Orders | Flag::Texts =>
-                Ok(Some(flag)),
-            Flag::Quiet => {
-                put(&mut self.quiet, flag, true)?;
-                Ok(None)
-            }
+            Flag::Threads => put(&mut self.threads, flag, count_of(flag, words)?),
+            Flag::Turns => put(&mut self.turns, flag, count_of(flag, words)?),
+            Flag::Memory => put(&mut self.memory, flag, value_of(flag, words)?),
+            Flag::Seed => put(&mut self.seed, flag, count_of(flag, words)?),
+            Flag::Orders => put(&mut self.orders, flag, count_of(flag, words)?),
+            Flag::Texts => put(&mut self.texts, flag, count_of(flag, words)?),
+            Flag::Quiet => put(&mut self.quiet, flag, true),
         }
     }
 
-    /// Takes a word that is no option's value, and gives the option whose value is to come next.
-    fn take(&mut self, word: String, allowed: &[Flag]) -> Result<Option<Flag>, Fault>
-        ensures { IfOk result (λ o. IfSome o (λ f. valued f ≡ true)) }
+    /// Takes a word, and the one behind it where it is an option with a value.
+    fn take(&mut self, word: String, words: &mut Args, allowed: &[Flag]) -> Result<(), Fault>
+        ensures { into_iter_len words.new ≤ into_iter_len words.old }
     {
         let text = word.as_str();
         if text == "--help" {
             self.help = true;
-            return Ok(None);
+            return Ok(());
         }
         if text != "-" && text.starts_with("-") {
             return match flag_of(text) {
-                Some(flag) if allowed.contains(&flag) => self.name(flag),
+                Some(flag) if allowed.contains(&flag) => self.option(flag, words),
                 _ => Err(Fault::UnknownOption(Quote::of(text))),
             };
         }
@@ -145,36 +124,33 @@ impl Given {
             return Err(Fault::TwoRows(Quote::of(text)));
         }
         self.rows = Some(word);
-        Ok(None)
+        Ok(())
+    }
+
+    /// Reads all words, of which a program takes the options that it allows.
+    fn read(mut words: Args, allowed: &[Flag]) -> Result<Given, Fault> {
+        let mut given = Given::default();
+        while let Some(word) = words.next() {
+            given.take(word, &mut words, allowed)?;
+        }
+        Ok(given)
     }
 }
 
-impl Given {
-    /// Reads all words, of which a program takes the options that it allows.
-    fn read(words: Args, allowed: &[Flag]) -> Result<Given, Fault> {
-        let mut given = Given::none();
-        let mut awaited: Option<Flag> = None;
-        for word in words {
-            awaited = match awaited {
-                Some(flag) => {
-                    given.set(flag, word)?;
-                    None
-                }
-                None => given.take(word, allowed)?,
-            };
-        }
-        match awaited {
-            Some(flag) => Err(Fault::NoValue(flag)),
-            None => Ok(given),
-        }
-    }
+/// What a program can be asked for by its arguments.
+pub trait Asked: Drop {
+    /// What was asked for, once all arguments are read: nothing where that is help.
+    fn asked(given: Given) -> Result<Option<Self>, Fault>
+        ensures help { given.help ≡ true → result ≡ Ok None }
+        ensures run { given.help ≡ false → IfOk result (λ o. is_some o ≡ true) };
+}
 
-    /// What was asked for, once all arguments are read.
-    fn call(self) -> Result<Call, Fault>
-        ensures help { self.help ≡ true → result ≡ Ok Help }
-        ensures run { IfOk result (λ c. elim c [ Help ↦ self.help ≡ true | Run o ↦ (o.threads ≡ unwrap_or self.threads 1) × (o.turns ≡ unwrap_or self.turns 1000) × (o.memory ≡ self.memory) × (o.seed ≡ unwrap_or self.seed 1) × (o.orders ≡ unwrap_or self.orders 20) × (self.rows ≡ Some o.rows) ]) }
-        ensures more { IfOk result (λ c. elim c [ Help ↦ self.help ≡ true | Run o ↦ (o.texts ≡ unwrap_or self.texts 500) × (o.quiet ≡ unwrap_or self.quiet false) ]) }
-        ensures test { self.help ≡ false → self.memory ≡ None → is_ok result ≡ is_some self.rows }
+impl Asked for Options {
+    fn asked(given: Given) -> Result<Option<Options>, Fault>
+        ensures help { given.help ≡ true → result ≡ Ok None }
+        ensures run { IfOk result (λ c. elim c [ None ↦ given.help ≡ true | Some o ↦ (o.threads ≡ unwrap_or given.threads 1) × (o.turns ≡ unwrap_or given.turns 1000) × (o.memory ≡ given.memory) × (o.seed ≡ unwrap_or given.seed 1) × (o.orders ≡ unwrap_or given.orders 20) × (given.rows ≡ Some o.rows) ]) }
+        ensures more { IfOk result (λ c. elim c [ None ↦ given.help ≡ true | Some o ↦ (o.texts ≡ unwrap_or given.texts 500) × (o.quiet ≡ unwrap_or given.quiet false) ]) }
+        ensures test { given.help ≡ false → given.memory ≡ None → is_ok result ≡ is_some given.rows }
     {
         let Given {
             help,
@@ -186,9 +162,9 @@ impl Given {
             texts,
             quiet,
             rows,
-        } = self;
+        } = given;
         if help {
-            return Ok(Call::Help);
+            return Ok(None);
         }
         let Some(rows) = rows else {
             return Err(Fault::NoRows);
@@ -196,7 +172,7 @@ impl Given {
         if is_stdin(&memory) && rows.as_str() == "-" {
             return Err(Fault::OneInput);
         }
-        Ok(Call::Run(Options {
+        Ok(Some(Options {
             threads: threads.unwrap_or(1),
             turns: turns.unwrap_or(1000),
             memory,
@@ -207,19 +183,22 @@ impl Given {
             rows,
         }))
     }
-    /// What a program that reads no file was asked for, once all arguments are read: nothing where that is help.
-    fn trial(self) -> Result<Option<Trial>, Fault>
-        ensures help { self.help ≡ true → result ≡ Ok None }
-        ensures run { IfOk result (λ o. elim o [ None ↦ self.help ≡ true | Some t ↦ (t.texts ≡ unwrap_or self.texts 500) × (t.seed ≡ unwrap_or self.seed 1) ]) }
-        ensures test { self.help ≡ false → is_ok result ≡ not (is_some self.rows) }
+}
+
+/// A program that reads no file.
+impl Asked for Trial {
+    fn asked(given: Given) -> Result<Option<Trial>, Fault>
+        ensures help { given.help ≡ true → result ≡ Ok None }
+        ensures run { IfOk result (λ o. elim o [ None ↦ given.help ≡ true | Some t ↦ (t.texts ≡ unwrap_or given.texts 500) × (t.seed ≡ unwrap_or given.seed 1) ]) }
+        ensures test { given.help ≡ false → is_ok result ≡ not (is_some given.rows) }
     {
-        if self.help {
+        if given.help {
             return Ok(None);
         }
-        no_file(&self.rows)?;
+        no_file(&given.rows)?;
         Ok(Some(Trial {
-            texts: self.texts.unwrap_or(500),
-            seed: self.seed.unwrap_or(1),
+            texts: given.texts.unwrap_or(500),
+            seed: given.seed.unwrap_or(1),
         }))
     }
 }
@@ -237,38 +216,17 @@ fn no_file(rows: &Option<String>) -> Result<(), Fault>
 fn is_stdin(file: &Option<String>) -> bool
     ensures { file.now ≡ None → result ≡ false }
 {
-    match file {
-        Some(name) => name.as_str() == "-",
-        None => false,
-    }
+    file.as_ref().is_some_and(|name| name.as_str() == "-")
 }
 
-/// Reads the arguments behind the program's own name. A program takes the options that it allows.
-pub fn read_options(words: Args, allowed: &[Flag]) -> Result<Call, Fault> {
-    Given::read(words, allowed)?.call()
-}
-
-/// .. of a program that reads no file: nothing where they ask for help.
-pub fn read_trial_options(words: Args, allowed: &[Flag]) -> Result<Option<Trial>, Fault> {
-    Given::read(words, allowed)?.trial()
+/// Reads the arguments behind the program's own name: nothing where they ask for help. A program takes the options that it allows.
+pub fn read_options<T: Asked>(words: Args, allowed: &[Flag]) -> Result<Option<T>, Fault> {
+    T::asked(Given::read(words, allowed)?)
 }
 
 /// Reads a program's own arguments.
-pub fn read_arguments(rt: &HostRuntime, allowed: &[Flag]) -> Result<Call, Fault> {
-    read_options(own_words(rt)?, allowed)
-}
-
-/// .. of a program that reads no file: nothing where they ask for help.
-pub fn read_trial_arguments(rt: &HostRuntime, allowed: &[Flag]) -> Result<Option<Trial>, Fault> {
-    read_trial_options(own_words(rt)?, allowed)
-}
-
-/// The words behind a program's own name.
-fn own_words(rt: &HostRuntime) -> Result<Args, Fault> {
-    let mut words = match env::args(rt) {
-        Ok(words) => words,
-        Err(why) => return Err(Fault::Arguments(why)),
-    };
+pub fn read_arguments<T: Asked>(rt: &HostRuntime, allowed: &[Flag]) -> Result<Option<T>, Fault> {
+    let mut words = env::args(rt).map_err(Fault::Arguments)?;
     let _program = words.next();
-    Ok(words)
+    read_options(words, allowed)
 }

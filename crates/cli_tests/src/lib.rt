@@ -6,31 +6,36 @@ ghost use Rattle.std.specs.Prelude.{◌≤◌, vec_len};
 use cli::fault::{Fault, FileName};
 use cli::flag::Flag;
 use cli::input::{Input, read_words};
-use cli::options::{Call, Options, read_options, read_trial_options};
+use cli::options::{Options, Trial, read_options};
 use std::alloc::{AllocError, Global};
-use words::budget::{Role, Task, bytes_needed, room};
+use std::io;
+use words::budget::{Role, Task};
 use words::flaw::Stop;
-use words::scanner::{Scanner, keep};
+use words::list::WordList;
+use words::scanner::Scanner;
 
 /// Reads a text as it would come from a file, a few bytes at a time.
 pub fn scan(text: &str, words: &mut Vec<u32>, most: usize) -> Result<(), Stop>
     ensures { vec_len words.old ≤ most → vec_len words.new ≤ most }
 {
+    let mut list = WordList::new(words, most);
     let mut scanner = Scanner::new();
     for piece in text.as_bytes().chunks(3) {
-        scanner.feed_all(piece, words, most)?;
+        scanner.feed_all(piece, &mut list)?;
     }
-    keep(words, scanner.finish()?, most)
+    let last = scanner.finish()?;
+    list.keep(last)
 }
 
 /// Reads as many blocks of blanks.
 pub fn scan_blanks(blocks: u32, words: &mut Vec<u32>) -> Result<(), Stop> {
     let blanks = [b' '; 4096];
+    let mut list = WordList::new(words, 0);
     let mut scanner = Scanner::new();
     for _ in 0..blocks {
-        scanner.feed_all(&blanks, words, 0)?;
+        scanner.feed_all(&blanks, &mut list)?;
     }
-    keep(words, scanner.finish()?, 0)
+    list.keep(scanner.finish()?)
 }
 
 /// The words of a text, or what is wrong with it.
@@ -54,11 +59,9 @@ pub fn told(heap: Global, read: Result<(), Stop>, words: &Vec<u32>) -> Result<St
 
 /// The words of a line.
 fn words_of(heap: Global, line: &str) -> Result<Vec<String>, AllocError> {
-    let mut words = Vec::new(heap);
-    for word in line.split_whitespace() {
-        words.push(String::from_str(heap, word)?)?;
-    }
-    Ok(words)
+    line.split_whitespace()
+        .map(|word| String::from_str(heap, word))
+        .try_collect(heap)
 }
 
 /// What the arguments in a line ask for, or what is wrong with them.
@@ -68,9 +71,9 @@ pub fn asked(heap: Global, line: &str) -> Result<String, AllocError> {
 
 /// .. of a program that allows these options.
 pub fn asked_of(heap: Global, line: &str, allowed: &[Flag]) -> Result<String, AllocError> {
-    match read_options(words_of(heap, line)?.into_iter(), allowed) {
-        Ok(Call::Help) => format!(in heap; "help"),
-        Ok(Call::Run(options)) => {
+    match read_options::<Options>(words_of(heap, line)?.into_iter(), allowed) {
+        Ok(None) => format!(in heap; "help"),
+        Ok(Some(options)) => {
             let threads = options.threads;
             let turns = options.turns;
             let memory = &options.memory;
@@ -84,16 +87,12 @@ pub fn asked_of(heap: Global, line: &str, allowed: &[Flag]) -> Result<String, Al
 
 /// .. of a program that reads no file.
 pub fn asked_without_file(heap: Global, line: &str) -> Result<String, AllocError> {
-    match read_trial_options(
+    match read_options::<Trial>(
         words_of(heap, line)?.into_iter(),
         &[Flag::Texts, Flag::Seed],
     ) {
         Ok(None) => format!(in heap; "help"),
-        Ok(Some(trial)) => {
-            let texts = trial.texts;
-            let seed = trial.seed;
-            format!(in heap; "{texts} {seed}")
-        }
+        Ok(Some(trial)) => { format!(in heap; "{} {}", trial.texts, trial.seed) }
         Err(fault) => format!(in heap; "{fault}"),
     }
 }
@@ -289,10 +288,10 @@ mod tests {
             "no?such: can't be read: No such file or directory (os error 2)"
         );
         let name = FileName(String::from_str(heap, "-")?);
-        let most = room(Task::Read, Role::Rows(1000));
+        let most = Task::Read.room(Role::Rows(1000));
         let over = Fault::OverBudget(
             name,
-            bytes_needed(Task::Read, Role::Rows(1000), most.saturating_add(1)),
+            Task::Read.bytes_needed(Role::Rows(1000), most.saturating_add(1)),
         );
         assert_eq!(rt; most, 523276);
         let told =
@@ -301,15 +300,35 @@ mod tests {
         Ok(())
     }
 
+    /// The messages that no other test brings about.
+    #[test]
+    fn faults(rt: HostRuntime) -> Result<(), Fail> {
+        let heap = rt.alloc();
+        for (fault, told) in [
+            (
+                Fault::Arguments(io::Error::from(io::ErrorKind::InvalidData)),
+                "the arguments can't be read: invalid data: write them in UTF-8",
+            ),
+            (
+                Fault::from(io::Error::from(io::ErrorKind::BrokenPipe)),
+                "the answer can't be written: broken pipe",
+            ),
+            (Fault::from(AllocError), "there is not enough memory"),
+        ] {
+            assert_eq!(rt; format!(in heap; "{fault}")?.as_str(), told);
+        }
+        Ok(())
+    }
+
     /// The room of a program that runs its rows once.
     #[test]
     fn room_to_run(rt: HostRuntime) -> Result<(), Fail> {
         let heap = rt.alloc();
         let name = FileName(String::from_str(heap, "-")?);
-        let most = room(Task::Run(2), Role::Rows(1000));
+        let most = Task::Run(2).room(Role::Rows(1000));
         let over = Fault::OverBudget(
             name,
-            bytes_needed(Task::Run(2), Role::Rows(1000), most.saturating_add(1)),
+            Task::Run(2).bytes_needed(Role::Rows(1000), most.saturating_add(1)),
         );
         assert_eq!(rt; most, 103640);
         let told =

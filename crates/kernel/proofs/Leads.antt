@@ -1,76 +1,94 @@
 -- The order that is led step by step: a step of it, its end, and what both say of the whole.
-use Rattle.std.proofs.Common.{◌≡◌, ℕ, suc, ◌<◌, List, Ok, Err, Result, refl, MatchResult}
+use Rattle.std.proofs.Common.{◌≡◌, ℕ, suc, ◌<◌, Bool, true, false, length, Some, None, Option, IsErrAnd, Ok, Err, Result, sym, refl, subst, subst₂, MatchResult}
+use Rattle.model.specs.declared.Clash.{Clash}
 use Rattle.model.specs.declared.Place.{Place}
 use Rattle.model.specs.declared.ThreadId.{ThreadId}
 use Rattle.model.specs.Kernel.{Kernel}
 use Rattle.model.specs.Rows.{Rows}
-use Rattle.model.specs.Races.{Racy}
+use Rattle.model.specs.Races.{Race, Racy}
 use Rattle.model.specs.Steps.{stepped, one}
-use Rattle.rows.specs.declared.decoder.Text.{Text}
-use Rattle.rows.specs.Decoded.{DecodePost}
-use Rattle.machine.specs.declared.touched.Access.{Access}
-use Rattle.machine.specs.declared.touched.Touched.{Touched}
-use Rattle.machine.specs.declared.touched.Touched.TheVariants.{At}
-use Rattle.machine.specs.Rules.{how}
-use Rattle.machine.specs.Stands.{Source}
+use Rattle.machine.specs.declared.engine.Engine.{Engine}
+use Rattle.machine.specs.declared.touched.Touch.{Touch}
+use Rattle.machine.specs.Begins.{AllBegun}
+use Rattle.machine.specs.Engines.{Stays}
+use Rattle.machine.specs.Stands.{source}
 use Rattle.machine.specs.Stepped.{SteppedOf}
 use Rattle.machine.specs.Together.{status_at}
-use Rattle.ledger.specs.declared.places.Noted.TheVariants.{Clash}
-use Rattle.ledger.specs.declared.stamp.Stamp.{Stamp}
-use Rattle.ledger.specs.Places.{Ledger, ledger}
-use Rattle.ledger.specs.Promises.{NotePost, OpenPost}
-use Rattle.machine.specs.Begins.{AllBegun}
+use Rattle.ledger.specs.Places.{Notes}
+use Rattle.ledger.specs.Promises.{OpenPost}
 use Rattle.kernel.specs.declared.led.ClashAt.{ClashAt}
-use Rattle.kernel.specs.declared.watch.Watch.TheVariants.{Quiet}
-use Rattle.kernel.specs.Led.{ToClash, ToEnd, LeadsToEnd, LeadsToClash}
-use Rattle.kernel.specs.Order.{Board, board, AtEnd}
+use Rattle.kernel.specs.Led.{met_at, ToClash, ToEnd, GoneOn, LeadsToEnd, LeadsToClash}
+use Rattle.kernel.specs.Noting.{Noted, StepNoted}
+use Rattle.kernel.specs.Order.{WentOn, AtEnd}
 use Rattle.kernel.specs.Ran.{SomeText}
+use Rattle.kernel.proofs.Advances.{advances}
 use Rattle.kernel.proofs.Moves.{goer, touch_grows}
 use Rattle.kernel.proofs.Paths.{then, calm}
 use Rattle.kernel.proofs.Plays.{Playing}
-use Rattle.kernel.proofs.Watches.{one_grows}
+use Rattle.kernel.proofs.Watches.{untouched_watched, fine_watched}
 use Rattle.kernel.proofs.Whole.{begins, decided, text_of}
 
--- a step whose touch the ledger tells as a clash is a step to that clash
-pub step_clashes : {s : Source} {n : ℕ} (i : ThreadId) {work work' m m' marks : List ℕ} {l' : Ledger} (stamp : Stamp) (r : Touched) (a : Place) (h : Access) (first : ThreadId) → i.0 < n → status_at work i.0 ≡ 0 → SteppedOf s i.0 n work work' m m' r → r ≡ At a h → NotePost (ledger marks stamp.count) l' i.0 a.0 (how h) (Clash first) → ToClash s n (board work m marks (Quiet stamp)) (record { thread = i; place = a })
-step_clashes i stamp r a h first within goes step touch post = record {
-  each = λ b st run.
-      let g = goer st run.held within goes in
-      let t = g.thread in
-      let moved = step.each st t run.held g.is g.goes in
-      let race = post.means.race st (stepped st i.0 t) run.said.0 (one_grows r a h (how h) touch refl (touch_grows st t r moved g.is)) in
-      record {
-        state = stepped st i.0 t;
-        reached = (suc run.count, then run.count b st (stepped st i.0 t) run.path (one i.0 t g.is g.goes));
-        other = race.0;
-        race = race.1;
-      };
-}
+-- a step that is noted goes on, and one whose touch is told as a clash is a step to that clash
+module _ {e e' : Engine} {l l' : Notes} {i : ThreadId} {r : Result (Unit {0}) Clash} (stays : Stays e e') (same : length l'.words ≡ length l.words) (within : i.0 < e.threads) (goes : status_at e.work.now i.0 ≡ 0) (step : StepNoted e e' l l' i r) where
+  noted_on : (τ : Option Touch) (r : Result (Unit {0}) Clash) → Noted l l' i τ r → SteppedOf (source e.script.now) i.0 e.threads e.work.now e'.work.now e.memory.now e'.memory.now τ → MatchResult r (λ _. WentOn e (Some l) e' (Some l')) (λ k. ToClash e l (met_at k))
+  noted_on None r (is, none) step =
+      subst (λ r. MatchResult r (λ _. WentOn e (Some l) e' (Some l')) (λ k. ToClash e l (met_at k))) (sym is)
+      (subst (λ l'. WentOn e (Some l) e' (Some l')) (sym none) (advances None stays within goes step (untouched_watched (Some l) i.0 None refl)))
+  noted_on (Some t) (Ok done) post step = advances (Some t) stays within goes step (fine_watched i.0 refl (Some t) t refl (Ok tt) refl post same)
+  noted_on (Some t) (Err k) (post, by, at) step = record {
+    each = λ b st run.
+        let g = goer st run.held within goes in
+        let moved = step.each st g.thread run.held g.is g.goes in
+        let race = post.means.race st (stepped st i.0 g.thread) run.said.0 (touch_grows st g.thread (Some t) moved g.is) in
+        record {
+          state = stepped st i.0 g.thread;
+          reached = (suc run.count, then run.count b st (stepped st i.0 g.thread) run.path (one i.0 g.thread g.is g.goes));
+          other = race.0;
+          race = subst₂ (λ (j : ThreadId) (a : Place). Race (stepped st i.0 g.thread) race.0 j.0 a.0) (sym by) (sym at) race.1;
+        };
+  }
+
+  pub step_leads : MatchResult r (λ _. WentOn e (Some l) e' (Some l')) (λ k. ToClash e l (met_at k))
+  step_leads = noted_on step.touch r step.noted step.step
+
+-- a clash that a `?` passes on
+pub passed_on : {e : Engine} (e' : Engine) {l : Notes} (l' : Notes) (r : Result Bool ClashAt) (k : ClashAt) → IsErrAnd r (λ y. y ≡ k) → ToClash e l k → GoneOn e l e' l' r
+passed_on e' l' (Ok on) k is clash = absurd is
+passed_on {e} e' {l} l' (Err y) k is clash = subst (ToClash e l) (sym is) clash
+
+-- whether it went on is told rightly
+module _ {e : Engine} (e' : Engine) {l : Notes} (l' : Notes) (on : Bool) where
+  pub went_so : on ≡ true → GoneOn e l e' l' (Ok on) → WentOn e (Some l) e' (Some l')
+  went_so is gone = subst (λ on. GoneOn e l e' l' (Ok on)) is gone
+
+  pub ended_so : on ≡ false → GoneOn e l e' l' (Ok on) → ToEnd e l
+  ended_so is gone = subst (λ on. GoneOn e l e' l' (Ok on)) is gone
 
 -- an end without a clash so far
-pub at_end : {s : Source} {n : ℕ} {work m marks : List ℕ} {x' : Board} (stamp : Stamp) → AtEnd s n (board work m marks (Quiet stamp)) x' → ToEnd s n (board work m marks (Quiet stamp))
-at_end stamp end = record {
+pub at_end : {e e' : Engine} {l : Notes} {w' : Option Notes} → AtEnd e (Some l) e' w' → ToEnd e l
+at_end end = record {
   each = λ b st run. record { state = st; count = run.count; way = calm run.count b st run.path run.said.1; ended = end.ended b st run };
 }
 
 -- what the last turn comes to, the whole order does
-module _ {s : Source} {n : ℕ} {x x' : Board} (so_far : Playing s n x x') where
-  pub ends_so : ToEnd s n x' → ToEnd s n x
+module _ {e e' : Engine} {l l' : Notes} (so_far : Playing e (Some l) e' (Some l')) where
+  pub ends_so : ToEnd e' l' → ToEnd e l
   ends_so end = record { each = λ b st run. let last = so_far.each b st run in end.each b last.state last.run }
 
-  pub clashes_so : {k : ClashAt} → ToClash s n x' k → ToClash s n x k
+  pub clashes_so : {k : ClashAt} → ToClash e' l' k → ToClash e l k
   clashes_so clash = record { each = λ b st run. let last = so_far.each b st run in clash.each b last.state last.run }
 
 -- from the begin
-module _ {s : Source} {n turns words : ℕ} {work marks : List ℕ} (m : List ℕ) (stamp : Stamp) (begun : AllBegun work n turns) (opened : OpenPost words (ledger marks stamp.count)) (text : SomeText s) where
-  pub whole : (r : Result Stamp ClashAt) → MatchResult r (λ _. ToEnd s n (board work m marks (Quiet stamp))) (ToClash s n (board work m marks (Quiet stamp))) → MatchResult r (λ _. LeadsToEnd s.rows n turns m) (LeadsToClash s.rows n turns m)
-  whole (Ok last) end = record { each = λ k says. end.each _ _ (begins stamp begun opened k m (text_of text k says)) }
-  whole (Err x) clash = record { each = λ k says. clash.each _ _ (begins stamp begun opened k m (text_of text k says)) }
+module _ {e e' : Engine} {l : Notes} {turns words : ℕ} (begun : AllBegun e'.work.now e.threads turns) (memory : e'.memory.now ≡ e.memory.now) (stays : Stays e e') (opened : OpenPost words l) (text : SomeText (source e.script.now)) where
+  pub whole_end : ToEnd e' l → LeadsToEnd e turns
+  whole_end end = record { each = λ k says. end.each _ _ (begins begun memory stays opened k (text_of text k says)) }
+
+  pub whole_clash : {k : ClashAt} → ToClash e' l k → LeadsToClash e turns k
+  whole_clash clash = record { each = λ k says. clash.each _ _ (begins begun memory stays opened k (text_of text k says)) }
 
 -- an order that ends calmly shows that none has a clash
-pub none_clashes : {w t t' : List ℕ} (n turns : ℕ) (m : List ℕ) {x : Text} → DecodePost w t t' (Ok x) → LeadsToEnd w n turns m → (k : Kernel) × Rows w k × (Racy k n turns m → ⊥)
-none_clashes n turns m post leads =
-    let k = post.says.0 in
-    let says = post.says.1.says in
-    let end = leads.each k says in
-    (k, says, (decided k n turns m end.count end.state end.way end.ended).settled.no_clash)
+pub none_clashes : {e : Engine} {turns : ℕ} → SomeText (source e.script.now) → LeadsToEnd e turns → (k : Kernel) × Rows (source e.script.now).rows k × (Racy k e.threads turns e.memory.now → ⊥)
+none_clashes {e} {turns} text leads =
+    let k = text.kernel in
+    let end = leads.each k text.text.says in
+    (k, text.text.says, (decided k e.threads turns e.memory.now end.count end.state end.way end.ended).settled.no_clash)

@@ -1,5 +1,6 @@
 pub mod Watches
 pub mod Paths
+pub mod Engines
 pub mod Moves
 pub mod Advances
 pub mod Turns

@@ -1,12 +1,10 @@
 -- One step more at the end of an order, and whether there is a clash on the way then.
-use Rattle.std.proofs.Common.{ℕ, zero, suc, ◌⊎◌, List, sym, refl, subst, inl, inr}
+use Rattle.std.proofs.Common.{ℕ, zero, suc, ◌⊎◌, Some, None, Option, sym, refl, subst, inl, inr}
 use Rattle.model.specs.Steps.{State, Step, Steps}
 use Rattle.model.specs.Orders.{Clash, Calm}
-use Rattle.ledger.specs.Places.{ledger}
+use Rattle.ledger.specs.Places.{Notes}
 use Rattle.ledger.specs.Runs.{ClashOn}
 use Rattle.ledger.proofs.Tells.{race_free}
-use Rattle.kernel.specs.declared.watch.Watch.{Watch}
-use Rattle.kernel.specs.declared.watch.Watch.TheVariants.{Quiet, Clashed}
 use Rattle.kernel.specs.Watching.{Said, Follows, Watched}
 
 abbrev pub then : (c : ℕ) (b s u : State) → Steps c b s → Step s u → Steps (suc c) b u
@@ -29,11 +27,11 @@ calm zero b s p none = (none, p)
 calm (suc c) b s p none = ((λ k. none (inl k)), (p.0, p.1, calm c p.0 s p.2 (λ k. none (inr k))))
 
 -- what is told stays right with a step that it was told of
-module _ (R : State → State → Type 0) (marks marks' : List ℕ) (c : ℕ) (b s u : State) (p : Steps c b s) (step : Step s u) where
-  follows_said : (w' : Watch) → (ClashOn c b s p → ⊥) → Follows w' marks' u → Said w' marks' u (ClashOn (suc c) b u (then c b s u p step))
-  follows_said (Quiet stamp) none tells = (tells, λ k. elim (then_clash c b s u p step k) [ inl old ↦ none old | inr new ↦ race_free (ledger marks' stamp.count) u tells new ])
-  follows_said Clashed none k = clash_then c b s u p step (inr k)
+module _ (R : State → State → Type 0) (c : ℕ) (b s u : State) (p : Steps c b s) (step : Step s u) where
+  follows_said : (w' : Option Notes) → (ClashOn c b s p → ⊥) → Follows w' u → Said w' u (ClashOn (suc c) b u (then c b s u p step))
+  follows_said (Some l) none tells = (tells, λ k. elim (then_clash c b s u p step k) [ inl old ↦ none old | inr new ↦ race_free l u tells new ])
+  follows_said None none k = clash_then c b s u p step (inr k)
 
-  pub said_on : (w w' : Watch) → Watched R w marks w' marks' → R s u → Said w marks s (ClashOn c b s p) → Said w' marks' u (ClashOn (suc c) b u (then c b s u p step))
-  said_on (Quiet stamp) w' watched r said = follows_said w' said.1 (watched.quiet stamp refl s u r said.0)
-  said_on Clashed w' watched r said = subst (λ w. Said w marks' u (ClashOn (suc c) b u (then c b s u p step))) (sym (watched.clashed refl)) (clash_then c b s u p step (inl said))
+  pub said_on : (w w' : Option Notes) → Watched R w w' → R s u → Said w s (ClashOn c b s p) → Said w' u (ClashOn (suc c) b u (then c b s u p step))
+  said_on (Some l) w' watched r said = follows_said w' said.1 (watched.quiet l refl s u r said.0)
+  said_on None w' watched r said = subst (λ w. Said w u (ClashOn (suc c) b u (then c b s u p step))) (sym (watched.clashed refl)) (clash_then c b s u p step (inl said))

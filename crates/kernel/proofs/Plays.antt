@@ -1,31 +1,33 @@
 -- Turn by turn, an order is carried on.
-use Rattle.std.proofs.Common.{◌≡◌, ℕ, ◌≤◌, length, sym, subst₂}
+use Rattle.std.proofs.Common.{Option, sym, subst}
 use Rattle.model.specs.Steps.{State}
-use Rattle.machine.specs.Stands.{Source}
-use Rattle.ledger.specs.Runs.{ledger_words}
-use Rattle.kernel.specs.Order.{Board, Run, SomeRun, WentOn, AtEnd, Played}
+use Rattle.machine.specs.declared.engine.Engine.{Engine}
+use Rattle.machine.specs.Engines.{Stays}
+use Rattle.ledger.specs.Places.{Notes}
+use Rattle.kernel.specs.Watching.{Room}
+use Rattle.kernel.specs.Order.{Run, SomeRun, WentOn, AtEnd, Played}
 
-pub record Reached (s : Source) (n : ℕ) (x : Board) (b : State) : Type 0 where
+pub record Reached (e : Engine) (w : Option Notes) (b : State) : Type 0 where
   pub state : State
-  pub run : Run s n x b state
+  pub run : Run e w b state
 
--- so far: some order has come here, and each that had begun at x has come to x'
-pub record Playing (s : Source) (n : ℕ) (x x' : Board) : Type 0 where
-  pub some : SomeRun s n x'
-  pub each : (b st : State) → Run s n x b st → Reached s n x' b
+-- so far: some order has come here, and each that had begun at e has come to e'
+pub record Playing (e : Engine) (w : Option Notes) (e' : Engine) (w' : Option Notes) : Type 0 where
+  pub some : SomeRun e' w'
+  pub each : (b st : State) → Run e w b st → Reached e' w' b
 
-module _ {s : Source} {n : ℕ} {x : Board} where
-  pub begins : SomeRun s n x → Playing s n x x
+module _ {e : Engine} {w : Option Notes} where
+  pub begins : SomeRun e w → Playing e w e w
   begins run = record { some = run; each = λ b st r. record { state = st; run = r } }
 
-  module _ {x' x'' : Board} (so_far : Playing s n x x') where
-    pub goes_on : length x''.memory ≡ length x'.memory → length x''.marks ≡ length x'.marks → WentOn s n x' x'' → Playing s n x x''
-    goes_on memory_same marks_same went = record {
-      some = let last = so_far.some in record { from = last.from; state = _; run = (went.each last.from last.state last.run).run; room = subst₂ (λ words n. ledger_words words ≤ n) (sym memory_same) (sym marks_same) last.room };
+  module _ {e' : Engine} {w' : Option Notes} (so_far : Playing e w e' w') {e'' : Engine} {w'' : Option Notes} where
+    pub goes_on : Stays e' e'' → WentOn e' w' e'' w'' → Playing e w e'' w''
+    goes_on stays went = record {
+      some = let last = so_far.some in record { from = last.from; state = _; run = (went.each last.from last.state last.run).run; room = subst (λ places. Room places w'') (sym stays.as_long) (went.room _ last.room) };
       each = λ b st r. let last = so_far.each b st r in record { state = _; run = (went.each b last.state last.run).run };
     }
 
-    pub stops : AtEnd s n x' x'' → Played s n x x''
+    pub stops : AtEnd e' w' e'' w'' → Played e w e'' w''
     stops end = record {
       each = λ b st r. let last = so_far.each b st r in record { state = last.state; run = end.same b last.state last.run; ended = end.ended b last.state last.run };
     }

@@ -1,12 +1,13 @@
 -- What each exit of `run` owes.
 use Rattle.std.proofs.Common.{◌≡◌, ℕ, true, false, ◌||◌, ltb, ◌⊎◌, List, length, Ok, Err, Result, sym, refl, subst, subst₂, inl, inr, arith, MatchResult}
 use Rattle.std.proofs.lemmas.Bool.{ltb-true, ltb-false, or_cases, or_parts}
+use Rattle.model.specs.declared.Clash.{Clash}
 use Rattle.model.specs.Steps.{begin}
-use Rattle.rows.specs.declared.decoder.Text.{Text}
-use Rattle.rows.specs.Decoded.{DecodePost}
-use Rattle.kernel.specs.declared.outcome.Clash.{Clash}
+use Rattle.machine.specs.declared.engine.Engine.{Engine}
+use Rattle.machine.specs.Stands.{source}
 use Rattle.kernel.specs.declared.outcome.Ran.{Ran}
 use Rattle.kernel.specs.declared.outcome.Ran.TheVariants.{Even, Uneven, Few}
+use Rattle.kernel.specs.Ran.{SomeText}
 use Rattle.kernel.specs.Says.{floor, Met, RanSays, RanPost}
 use Rattle.kernel.specs.Sequence.{RunsToEnd, RunsToClash}
 use Rattle.kernel.specs.Whole.{ran_in_words, HandsOut, HasRun}
@@ -17,27 +18,28 @@ never : {x : Ran} → (x ≡ Even) ⊎ ((k : Clash) × (x ≡ Uneven k)) → x �
 never (inl is) few = let z : ◌≡◌ {A = ℕ} 0 1 = cc in omega arith
 never (inr (k, is)) few = let z : ◌≡◌ {A = ℕ} 0 1 = cc in omega arith
 
-module _ (r : List ℕ) (n turns : ℕ) (m m' o o' : List ℕ) where
+module _ {turns : ℕ} {m m' o o' : List ℕ} where
   -- the order was run on the copy, which was the memory before, and is handed out as the memory after
-  pub handed : (t t' copy copy' work' : List ℕ) (x : Text) (ran : Ran) (outcome : Result (Unit {0}) Clash) → DecodePost r t t' (Ok x) → copy ≡ m → MatchResult outcome (λ _. RunsToEnd (record { rows = r; ends = t'; variables = x.variables }) n turns copy work' copy') (RunsToClash (record { rows = r; ends = t'; variables = x.variables }) n turns copy) → ran ≡ ran_in_words outcome → HandsOut ran copy' work' n m m' o o' → HasRun r n turns m m' o o' ran
-  handed t t' copy copy' work' x ran (Ok v) post before runs is hands =
-      let k = post.says.0 in
-      let says = post.says.1.says in
-      let out = subst (λ x. HandsOut x copy' work' n m m' o o') is hands in
-      let all : RanSays r n turns m copy' o o' Even = subst (λ m. RanSays r n turns m copy' o o' Even) before (k, says, even k (runs.each k says).1 out.1) in
+  pub handed : (e e' : Engine) {ran : Ran} (outcome : Result (Unit {0}) Clash) → SomeText (source e.script.now) → e.memory.now ≡ m → e'.threads ≡ e.threads → MatchResult outcome (λ _. RunsToEnd e turns e') (RunsToClash e turns) → ran ≡ ran_in_words outcome → HandsOut ran e' m m' o o' → HasRun (source e.script.now).rows e.threads turns m m' o o' ran
+  handed e e' (Ok v) text before same runs is hands =
+      let k = text.kernel in
+      let says = text.text.says in
+      let out = subst (λ x. HandsOut x e' m m' o o') is hands in
+      let all : RanSays (source e.script.now).rows e.threads turns m e'.memory.now o o' Even = subst (λ m. RanSays (source e.script.now).rows e.threads turns m e'.memory.now o o' Even) before (k, says, even e' k same (runs.each k says).1 out.1) in
       record {
-        says = subst₂ (λ m' x. RanSays r n turns m m' o o' x) (sym out.0) (sym is) all;
+        says = subst₂ (λ m' x. RanSays (source e.script.now).rows e.threads turns m m' o o' x) (sym out.0) (sym is) all;
         enough = never (inl is);
       }
-  handed t t' copy copy' work' x ran (Err c) post before runs is hands =
-      let k = post.says.0 in
-      let says = post.says.1.says in
-      let out = subst (λ x. HandsOut x copy' work' n m m' o o') is hands in
+  handed e e' (Err c) text before same runs is hands =
+      let k = text.kernel in
+      let says = text.text.says in
+      let out = subst (λ x. HandsOut x e' m m' o o') is hands in
       record {
-        says = subst (RanSays r n turns m m' o o') (sym is) (k, says, subst (λ m. Met (begin k n turns m) c) before (runs.each k says), out.0, out.1);
+        says = subst (RanSays (source e.script.now).rows e.threads turns m m' o o') (sym is) (k, says, subst (λ m. Met (begin k e.threads turns m) c) before (runs.each k says), out.0, out.1);
         enough = never (inr (c, is));
       }
 
+module _ (r : List ℕ) (n turns : ℕ) (m m' o o' : List ℕ) where
   pub ran : (w : ℕ) (x : Ran) → (ltb (length o) n || ltb w (floor (length r) (length m) n)) ≡ false → HasRun r n turns m m' o o' x → RanPost r n turns m m' o o' w x
   ran w x enough run =
       let parted = or_parts (ltb (length o) n) (ltb w (floor (length r) (length m) n)) enough in

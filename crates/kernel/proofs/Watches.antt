@@ -1,49 +1,49 @@
 -- What is told after a touch, or after all that wait have gone on.
-use Rattle.std.proofs.Common.{◌≡◌, ℕ, List, sym, subst, arith}
-use Rattle.model.specs.declared.Place.{Place}
-use Rattle.model.specs.declared.ThreadId.{ThreadId}
-use Rattle.model.specs.Steps.{State, Access as Way}
-use Rattle.machine.specs.declared.touched.Access.{Access}
-use Rattle.machine.specs.declared.touched.Touched.{Touched}
-use Rattle.machine.specs.declared.touched.Touched.TheVariants.{Nothing, At}
-use Rattle.machine.specs.Rules.{how, touches}
-use Rattle.ledger.specs.declared.stamp.Stamp.{Stamp}
-use Rattle.ledger.specs.declared.places.Noted.TheVariants.{Fine, Clash}
-use Rattle.ledger.specs.Places.{ledger}
+use Rattle.std.proofs.Common.{◌≡◌, ℕ, length, Some, None, Option, true, false, Ok, Err, Result, sym, subst, true≢false, arith}
+use Rattle.std.specs.Result.{is_err}
+use Rattle.model.specs.Steps.{State}
+use Rattle.machine.specs.declared.touched.Touch.{Touch}
+use Rattle.machine.specs.Rules.{touches}
+use Rattle.ledger.specs.declared.places.Earlier.{Earlier}
+use Rattle.ledger.specs.Places.{Notes}
 use Rattle.ledger.specs.Tells.{Tells, Grows}
 use Rattle.ledger.specs.Promises.{one_touch, NotePost, NextPost}
 use Rattle.ledger.proofs.Tells.{kept_tells}
-use Rattle.kernel.specs.declared.watch.Watch.{Watch}
-use Rattle.kernel.specs.declared.watch.Watch.TheVariants.{Quiet, Clashed}
-use Rattle.kernel.specs.Watching.{touching, resuming, Follows, Watched}
+use Rattle.kernel.specs.Watching.{Room, touching, resuming, Follows, Watched}
 
-quiet_watched : (R : State → State → Type 0) {w : Watch} {marks : List ℕ} {w' : Watch} {marks' : List ℕ} (stamp : Stamp) → w ≡ Quiet stamp → ((s u : State) → R s u → Tells (ledger marks stamp.count) s → Follows w' marks' u) → Watched R w marks w' marks'
-quiet_watched R {w} {marks} stamp is each = record {
-  quiet = λ st e s u r tells. let same : st ≡ stamp = cc in each s u r (subst (λ (st : Stamp). Tells (ledger marks st.count) s) same tells);
+quiet_watched : (R : State → State → Type 0) {w w' : Option Notes} (l : Notes) → w ≡ Some l → ((s u : State) → R s u → Tells l s → Follows w' u) → ((places : ℕ) → Room places (Some l) → Room places w') → Watched R w w'
+quiet_watched R l is each room = record {
+  quiet = λ k e s u r tells. let same : l ≡ k = cc in each s u r (subst (λ l. Tells l s) (sym same) tells);
   clashed = λ e. let z : ◌≡◌ {A = ℕ} 0 1 = cc in absurd (omega arith);
+  room = λ places r. room places (subst (Room places) is r);
 }
 
-pub one_grows : {s u : State} {i : ℕ} (τ : Touched) (a : Place) (h : Access) (x : Way) → τ ≡ At a h → x ≡ how h → Grows s u i (touches τ) → Grows s u i (one_touch a.0 x)
-one_grows {s} {u} {i} τ a h x touch same grows = subst (λ x. Grows s u i (one_touch a.0 x)) (sym same) (subst (λ τ. Grows s u i (touches τ)) touch grows)
+-- as many words have room for as many places
+as_much_room : (l l' : Notes) → length l'.words ≡ length l.words → (places : ℕ) → Room places (Some l) → Room places (Some l')
+as_much_room l l' same places room = omega (arith, same, room)
 
-module _ {w : Watch} {marks : List ℕ} (stamp : Stamp) (i : ℕ) (τ : Touched) (is : w ≡ Quiet stamp) where
-  pub nothing_watched : τ ≡ Nothing → Watched (touching i (touches τ)) w marks (Quiet stamp) marks
-  nothing_watched none =
-      quiet_watched (touching i (touches τ)) stamp is
-      (λ s u grows tells. kept_tells (ledger marks stamp.count) s u i tells (subst (λ τ. Grows s u i (touches τ)) none grows))
+-- where nothing was touched, the same is told
+pub untouched_watched : (w : Option Notes) (i : ℕ) (τ : Option Touch) → τ ≡ None → Watched (touching i (touches τ)) w w
+untouched_watched w i τ none = record {
+  quiet = λ l is s u grows tells. subst (λ w. Follows w u) (sym is) (kept_tells l s u i tells (subst (λ τ. Grows s u i (touches τ)) none grows));
+  clashed = λ is. is;
+  room = λ places r. r;
+}
 
-  module _ {marks' : List ℕ} {a : Place} {h : Access} {x : Way} (touch : τ ≡ At a h) (same : x ≡ how h) where
-    pub fine_watched : NotePost (ledger marks stamp.count) (ledger marks' stamp.count) i a.0 x Fine → Watched (touching i (touches τ)) w marks (Quiet stamp) marks'
-    fine_watched post =
-        quiet_watched (touching i (touches τ)) stamp is
-        (λ s u grows tells. post.means.tells s u tells (one_grows τ a h x touch same grows))
+pub grown : {s u : State} (i : ℕ) (τ : Option Touch) (t : Touch) → τ ≡ Some t → Grows s u i (touches τ) → Grows s u i (one_touch t.place.0 t.access)
+grown {s} {u} i τ t touch grows = subst (λ τ. Grows s u i (touches τ)) touch grows
 
-    pub clash_watched : (first : ThreadId) → NotePost (ledger marks stamp.count) (ledger marks' stamp.count) i a.0 x (Clash first) → Watched (touching i (touches τ)) w marks Clashed marks'
-    clash_watched first post =
-        quiet_watched (touching i (touches τ)) stamp is
-        (λ s u grows tells. let r = post.means.race s u tells (one_grows τ a h x touch same grows) in (r.0, i, a.0, r.1))
+module _ {w : Option Notes} {l l' : Notes} (i : ℕ) (is : w ≡ Some l) (τ : Option Touch) (t : Touch) (touch : τ ≡ Some t) where
+  pub fine_watched : (r : Result (Unit {0}) Earlier) → is_err r ≡ false → NotePost l l' i t.place.0 t.access r → length l'.words ≡ length l.words → Watched (touching i (touches τ)) w (Some l')
+  fine_watched (Err k) none post same = absurd (true≢false none)
+  fine_watched (Ok done) none post same = quiet_watched (touching i (touches τ)) l is (λ s u grows tells. post.means.tells s u tells (grown i τ t touch grows)) (as_much_room l l' same)
 
-pub resumed_watched : {w : Watch} {marks marks' : List ℕ} (stamp stamp' : Stamp) → w ≡ Quiet stamp → NextPost (ledger marks stamp.count) (ledger marks' stamp'.count) → Watched resuming w marks (Quiet stamp') marks'
-resumed_watched {marks' = marks'} stamp stamp' is post =
-    quiet_watched resuming stamp is
-    (λ s u e tells. subst (λ u. Tells (ledger marks' stamp'.count) u) (sym e) (post.tells s tells s))
+  pub clash_watched : (r : Result (Unit {0}) Earlier) → is_err r ≡ true → NotePost l l' i t.place.0 t.access r → Watched (touching i (touches τ)) w None
+  clash_watched (Ok done) some post = absurd (true≢false (sym some))
+  clash_watched (Err k) some post = quiet_watched (touching i (touches τ)) l is (λ s u grows tells. let r = post.means.race s u tells (grown i τ t touch grows) in (r.0, i, t.place.0, r.1)) (λ places r. tt)
+
+pub resumed_watched : {w : Option Notes} {l l' : Notes} → w ≡ Some l → NextPost l l' → length l'.words ≡ length l.words → Watched resuming w (Some l')
+resumed_watched {l = l} {l'} is post same =
+    quiet_watched resuming l is
+    (λ s u e tells. subst (Tells l') (sym e) (post.tells s tells s))
+    (as_much_room l l' same)

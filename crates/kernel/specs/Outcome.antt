@@ -1,10 +1,9 @@
 -- What an order leaves at its end, and what it decides for all other orders.
-use Rattle.std.specs.Prelude.{◌≡◌, ℕ, Bool, false, List, take, drop}
+use Rattle.std.specs.Prelude.{◌≡◌, ℕ, Bool, false, List, take, drop, Ok, Err, Result}
 use Rattle.model.specs.Kernel.{Kernel}
 use Rattle.model.specs.Rows.{Rows}
 use Rattle.model.specs.Steps.{State, Reaches, begin}
-use Rattle.kernel.specs.declared.drawn.Drawn.{Drawn}
-use Rattle.kernel.specs.declared.drawn.Drawn.TheVariants.{Few, NoText, Ended}
+use Rattle.kernel.specs.declared.job.Refused.{Refused}
 use Rattle.kernel.specs.Ran.{codes, Settled, Ran}
 
 -- m' is the memory of s, and the first n bytes of o' are the numbers of its n threads; the others are those of o
@@ -24,7 +23,6 @@ pub record WholeOrder (k : Kernel) (n turns : ℕ) (m m' o o' : List ℕ) (r : B
   pub decided : r ≡ false → Decided k n turns m ran.state
 
 -- .. of the kernel that the rows say, where an order was drawn
-abbrev pub IsWhole : List ℕ → ℕ → ℕ → List ℕ → List ℕ → List ℕ → List ℕ → Drawn → Type 0
-IsWhole w n turns m m' o o' Few = Unit {0}
-IsWhole w n turns m m' o o' (NoText x) = Unit {0}
-IsWhole w n turns m m' o o' (Ended clashed) = (k : Kernel) × Rows w k × WholeOrder k n turns m m' o o' clashed
+abbrev pub IsWhole : List ℕ → ℕ → ℕ → List ℕ → List ℕ → List ℕ → List ℕ → Result Bool Refused → Type 0
+IsWhole w n turns m m' o o' (Err x) = Unit {0}
+IsWhole w n turns m m' o o' (Ok clashed) = (k : Kernel) × Rows w k × WholeOrder k n turns m m' o o' clashed

@@ -1,11 +1,11 @@
 -- What `run` promises.
 use Rattle.std.specs.Prelude.{◌≡◌, ℕ, suc, ◌+◌, ◌*◌, ◌<◌, ◌⊎◌, ◌↔◌, List, length}
+pub use Rattle.model.specs.declared.Clash.{Clash}
 use Rattle.model.specs.Kernel.{Kernel}
 use Rattle.model.specs.Rows.{Rows}
 use Rattle.model.specs.Steps.{State, Step, Ended, begin}
 use Rattle.model.specs.Races.{Race}
 use Rattle.model.specs.Orders.{RaceFree, after}
-use Rattle.kernel.specs.declared.outcome.Clash.{Clash}
 use Rattle.kernel.specs.declared.outcome.Ran.{Ran}
 use Rattle.kernel.specs.declared.outcome.Ran.TheVariants.{Even, Uneven, NoKernel, Few}
 use Rattle.kernel.specs.Drawn.{Parts}

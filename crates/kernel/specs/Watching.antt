@@ -1,43 +1,68 @@
 -- What it means that nothing, or a clash, is told of an order so far.
-use Rattle.std.specs.Prelude.{◌≡◌, ℕ, ◌+◌, ◌*◌, ◌<◌, Bool, true, false, List}
-use Rattle.model.specs.Steps.{Touch, State, resumed}
+use Rattle.std.specs.Prelude.{◌≡◌, ℕ, ◌+◌, ◌*◌, ◌<◌, ◌≤◌, Bool, true, false, List, length, Some, None, Option}
+use Rattle.model.specs.Steps.{Touch as ModelTouch, State, resumed}
 use Rattle.model.specs.Orders.{Clash}
-use Rattle.machine.specs.declared.touched.Touched.{Touched}
-use Rattle.machine.specs.declared.touched.Touched.TheVariants.{Nothing, At}
-use Rattle.ledger.specs.declared.stamp.Stamp.{Stamp}
-use Rattle.ledger.specs.Places.{ledger}
+use Rattle.machine.specs.declared.touched.Touch.{Touch}
+use Rattle.ledger.specs.declared.places.Ledger.{Ledger}
+use Rattle.ledger.specs.Lent.{notes_in}
+use Rattle.ledger.specs.Places.{Notes}
+use Rattle.ledger.specs.Promises.{OpenPost}
+use Rattle.ledger.specs.Runs.{ledger_words}
 use Rattle.ledger.specs.Tells.{Tells, Grows}
 use Rattle.kernel.specs.declared.watch.Watch.{Watch}
-use Rattle.kernel.specs.declared.watch.Watch.TheVariants.{Quiet, Clashed}
 
-abbrev pub has_clashed : Watch → Bool
-has_clashed (Quiet stamp) = false
-has_clashed Clashed = true
+-- what is noted while there was no clash
+abbrev pub noted_in : Option Ledger → Option Notes
+noted_in (Some l) = Some (notes_in l)
+noted_in None = None
+
+abbrev pub told_in : Watch → Option Notes
+told_in w = noted_in w.0
+
+abbrev pub has_clashed : Option Notes → Bool
+has_clashed (Some l) = false
+has_clashed None = true
+
+-- nothing is noted in so many words
+abbrev pub Opened : ℕ → Option Notes → Type 0
+Opened words (Some l) = OpenPost words l × (length l.words ≡ words)
+Opened words None = ⊥
+
+-- each of so many places has its two words, as long as touches are noted
+abbrev pub Room : ℕ → Option Notes → Type 0
+Room places (Some l) = ledger_words places ≤ length l.words
+Room places None = Unit {0}
 
 -- the place that was touched has its two words
-abbrev pub Within : ℕ → Touched → Type 0
-Within words Nothing = Unit {0}
-Within words (At p h) = 2 * p.0 + 1 < words
+abbrev pub Places : ℕ → Option Touch → Type 0
+Places words None = Unit {0}
+Places words (Some t) = 2 * t.place.0 + 1 < words
 
--- The order has come to s, and P says that there was a clash on the way: while there was none, the marks
--- tell all touches.
-abbrev pub Said : Watch → List ℕ → State → Type 0 → Type 0
-Said (Quiet stamp) marks s P = Tells (ledger marks stamp.count) s × (P → ⊥)
-Said Clashed marks s P = P
+-- .. as long as touches are noted
+abbrev pub Within : Option Notes → Option Touch → Type 0
+Within (Some l) t = Places (length l.words) t
+Within None t = Unit {0}
 
--- there was no clash before s: now it is in s, or the marks still tell all touches
-abbrev pub Follows : Watch → List ℕ → State → Type 0
-Follows (Quiet stamp) marks s = Tells (ledger marks stamp.count) s
-Follows Clashed marks s = Clash s
+-- The order has come to s, and P says that there was a clash on the way: while there was none, what is noted
+-- tells all touches.
+abbrev pub Said : Option Notes → State → Type 0 → Type 0
+Said (Some l) s P = Tells l s × (P → ⊥)
+Said None s P = P
+
+-- there was no clash before s: now it is in s, or what is noted still tells all touches
+abbrev pub Follows : Option Notes → State → Type 0
+Follows (Some l) s = Tells l s
+Follows None s = Clash s
 
 -- how a step leads from one state to the next
-abbrev pub touching : ℕ → List Touch → State → State → Type 0
+abbrev pub touching : ℕ → List ModelTouch → State → State → Type 0
 touching i τs s u = Grows s u i τs
 
 abbrev pub resuming : State → State → Type 0
 resuming s u = u ≡ resumed s
 
 -- what is told goes with each such step
-pub record Watched (R : State → State → Type 0) (w : Watch) (marks : List ℕ) (w' : Watch) (marks' : List ℕ) : Type 0 where
-  pub quiet : (stamp : Stamp) → w ≡ Quiet stamp → (s u : State) → R s u → Tells (ledger marks stamp.count) s → Follows w' marks' u
-  pub clashed : w ≡ Clashed → w' ≡ Clashed
+pub record Watched (R : State → State → Type 0) (w w' : Option Notes) : Type 0 where
+  pub quiet : (l : Notes) → w ≡ Some l → (s u : State) → R s u → Tells l s → Follows w' u
+  pub clashed : w ≡ None → w' ≡ None
+  pub room : (places : ℕ) → Room places w → Room places w'

@@ -3,16 +3,18 @@ ghost use Rattle.std.specs.Prelude.{◌*◌, ◌≤◌, length};
 ghost use Rattle.kernel.specs.Choice.{First, Next};
 
 use machine::thread::{STATUS, WORDS};
+use machine::{Engine, Status};
 use model::ThreadId;
 
-// The first thread that is going, of those from `from` on and below `to`.
+// The first thread that is going, of those from `from` on and below `to`. With `find` over the range the proof didn't close: it
+// told nothing of the threads that it passes.
 fn first_going(work: &[u32], from: u32, to: u32) -> Option<ThreadId>
     requires order { from ≤ to }
     requires room { 1024 * to ≤ length work.now }
     ensures { First work.now from to result }
 {
     'threads: for j in from..to {
-        if work[WORDS * j as usize + STATUS] == 0 {
+        if work[WORDS * j as usize + STATUS] == Status::Going as u32 {
             return Some(ThreadId(j));
         }
     }
@@ -30,4 +32,12 @@ pub fn next_going(work: &[u32], threads: u32, from: u32) -> Option<ThreadId>
         Some(thread) => Some(thread),
         None => first_going(work, 0, from),
     }
+}
+
+// .. of an engine's threads. The one above stays for a caller that has words alone.
+pub fn next_of(engine: &Engine, from: u32) -> Option<ThreadId>
+    requires { from ≤ engine.now.threads }
+    ensures { Next engine.now.work.now from engine.now.threads result }
+{
+    next_going(engine.work, engine.threads, from)
 }

@@ -1,183 +1,138 @@
 // The order in which the first thread that is going takes each step, led step by step: a second way to the clash
 // that `run` tells, which shares nothing with it but the engine and the ledger.
-ghost use Rattle.std.specs.Prelude.{◌≡◌, ◌<◌, length, MatchResult};
+// Engine and ledger go side by side: of a struct that holds both nothing is known of what the lent words end as. For that
+// reason `SomeRun`, which speaks of both, is asked by each function and is no invariant.
+ghost use Rattle.std.specs.Prelude.{◌≡◌, ◌≤◌, length, Some, MatchResult};
+ghost use Rattle.machine.specs.Engines.{Stays};
 ghost use Rattle.machine.specs.Stands.{source};
-ghost use Rattle.machine.specs.Together.{status_at};
-ghost use Rattle.kernel.specs.declared.watch.Watch.TheVariants.{Quiet};
-ghost use Rattle.kernel.specs.Drawn.{Enough};
-ghost use Rattle.kernel.specs.Order.{board, SomeRun};
+ghost use Rattle.ledger.specs.Lent.{notes_in, SameMarks};
+ghost use Rattle.ledger.specs.Runs.{ledger_words};
+ghost use Rattle.kernel.specs.declared.led.NotCalm.TheVariants.{NotRun, Clashed};
+ghost use Rattle.kernel.specs.Jobs.{sizes_of};
+ghost use Rattle.kernel.specs.Order.{SomeRun};
 ghost use Rattle.kernel.specs.Ran.{SomeText};
-ghost use Rattle.kernel.specs.Led.{SteppedOn, GoneOn, ToEnd, ToClash, LeadsToEnd, LeadsToClash, LedSays, meets};
+ghost use Rattle.kernel.specs.Led.{met_at, GoneOn, ToEnd, ToClash, LeadsToEnd, LeadsToClash, LedSays, meets};
 
-use crate::choice::next_going;
-use crate::drawn::{Lent, enough};
-use crate::outcome::Clash;
-use crate::watch::note_touch;
-use ledger::{Noted, Stamp, next_stretch, open};
-use machine::all::{begin_all, step_of};
-use machine::resume::resume_all;
-use machine::script::Script;
-use machine::touched::Touched;
-use model::{Place, ThreadId};
-use rows::decode;
+use crate::choice::next_of;
+use crate::job::{Job, Lent, Refused};
+use crate::noted::step_noted;
+use ledger::Ledger;
+use machine::{Engine, Script};
+use model::{Clash, Place, ThreadId};
 
-// A thread whose step clashed with what another one had touched, and the place.
-#[derive(Clone, Copy)]
+// A thread whose step clashed with what another one had touched, and the place. It is no `Clash`: which thread touched the
+// place first isn't promised of this order.
+#[derive(Clone, Copy, Debug, PartialEq, Eq)]
 pub struct ClashAt {
     pub thread: ThreadId,
     pub place: Place,
 }
 
-// How the order goes on: in the stretch with this stamp, to a clash, or not at all, since it is at its end.
-#[derive(Clone, Copy)]
-pub enum Next {
-    On(Stamp),
-    Clash(ClashAt),
-    End,
-}
+// The thread that takes the step is the second of the two.
+impl From<Clash> for ClashAt {
+    ghost from_gives = { λ clash at. at ≡ met_at clash };
 
-// What becomes of it: too little is lent for it, the rows are no text, it ended without a clash after so many
-// stretches, or a thread clashed with another one.
-#[derive(Clone, Copy)]
-pub enum Led {
-    Few,
-    NoText,
-    Calm(u32),
-    Clash(ClashAt),
-}
-
-impl Led {
-    // Whether this is the clash that is told: by the same thread, which is the second of the two, at the same place.
-    pub fn meets(self, told: Clash) -> bool
-        ensures { result ≡ meets told self }
-    {
-        match self {
-            Led::Clash(at) => at.thread.0 == told.second.0 && at.place.0 == told.place.0,
-            Led::Few | Led::NoText | Led::Calm(_) => false,
+    fn from(clash: Clash) -> ClashAt {
+        ClashAt {
+            thread: clash.second,
+            place: clash.place,
         }
     }
 }
 
-// A thread that is going takes a step, and what it touched is noted.
-fn step_on(
-    script: &Script,
-    threads: u32,
-    thread: ThreadId,
-    memory: &mut [u32],
-    work: &mut [u32],
-    marks: &mut [u32],
-    stamp: Stamp,
-) -> Option<ClashAt>
-    requires some { SomeRun (source script.now) threads (board work.old memory.old marks.old (Quiet stamp)) }
-    requires within { thread.0 < threads }
-    requires goes { status_at work.old thread.0 ≡ 0 }
-    ensures { SteppedOn (source script.now) threads (board work.old memory.old marks.old (Quiet stamp)) (board work.new memory.new marks.new (Quiet stamp)) thread.0 result }
-{
-    let Touched::At(place, access) = step_of(script, work, memory, thread, threads) else {
-        return None;
-    };
-    match note_touch(marks, stamp, thread, place, access) {
-        Noted::Fine => None,
-        Noted::Clash(_) => Some(ClashAt { thread, place }),
+// Why it didn't end without a clash: it was not run, or a thread clashed with another one.
+#[derive(Clone, Copy, Debug, PartialEq, Eq)]
+pub enum NotCalm {
+    NotRun(Refused),
+    Clashed(ClashAt),
+}
+
+// By hand, as the one below, since a derived `From` has no contract, and what `?` makes of an error is promised.
+impl From<Refused> for NotCalm {
+    ghost from_gives = { λ refused why. why ≡ NotRun refused };
+
+    fn from(refused: Refused) -> NotCalm {
+        NotCalm::NotRun(refused)
     }
 }
 
-// The first thread that is going takes a step, or, where none is, all that wait go on.
-fn turn(
-    script: &Script,
-    threads: u32,
-    memory: &mut [u32],
-    work: &mut [u32],
-    marks: &mut [u32],
-    stamp: Stamp,
-) -> Next
-    requires { SomeRun (source script.now) threads (board work.old memory.old marks.old (Quiet stamp)) }
-    ensures { GoneOn (source script.now) threads (board work.old memory.old marks.old (Quiet stamp)) (λ new_stamp. board work.new memory.new marks.new (Quiet new_stamp)) result }
+impl From<ClashAt> for NotCalm {
+    ghost from_gives = { λ at why. why ≡ Clashed at };
+
+    fn from(at: ClashAt) -> NotCalm {
+        NotCalm::Clashed(at)
+    }
+}
+
+// Whether an order that was led came to the clash that is told: by the same thread, which is the second of the two, at the
+// same place.
+pub fn meets(led: Result<u32, NotCalm>, told: Clash) -> bool
+    ensures { result ≡ meets told led }
 {
-    if let Some(thread) = next_going(work, threads, 0) {
-        return match step_on(script, threads, thread, memory, work, marks, stamp) {
-            None => Next::On(stamp),
-            Some(at) => Next::Clash(at),
-        };
+    match led {
+        Err(NotCalm::Clashed(at)) => at.thread == told.second && at.place == told.place,
+        Ok(_) | Err(NotCalm::NotRun(_)) => false,
     }
-    if !resume_all(work, threads) {
-        return Next::End;
+}
+
+// The first thread that is going takes a step, or, where none is, all that wait go on, and the order with it; nothing at
+// an end. It is no turn of `order`: that one goes on past a clash, and its promise speaks of a ledger that may be gone.
+fn turn(engine: &mut Engine, ledger: &mut Ledger) -> Result<bool, ClashAt>
+    requires { SomeRun engine.old (Some (notes_in ledger.old)) }
+    ensures on { GoneOn engine.old (notes_in ledger.old) engine.new (notes_in ledger.new) result }
+    ensures stays { Stays engine.old engine.new }
+    ensures same_marks { SameMarks ledger.old ledger.new }
+{
+    if let Some(thread) = next_of(engine, 0) {
+        step_noted(engine, ledger, thread)?;
+        return Ok(true);
     }
-    Next::On(next_stretch(marks, stamp))
+    if !engine.resume() {
+        return Ok(false);
+    }
+    ledger.next_stretch();
+    Ok(true)
 }
 
 // The order is carried on to its end, or to its first clash.
-fn carry_on(
-    script: &Script,
-    threads: u32,
-    memory: &mut [u32],
-    work: &mut [u32],
-    marks: &mut [u32],
-    first: Stamp,
-) -> Result<Stamp, ClashAt>
-    requires { SomeRun (source script.now) threads (board work.old memory.old marks.old (Quiet first)) }
-    ensures { MatchResult result (λ _. ToEnd (source script.now) threads (board work.old memory.old marks.old (Quiet first))) (ToClash (source script.now) threads (board work.old memory.old marks.old (Quiet first))) }
+fn carry_on(engine: &mut Engine, ledger: &mut Ledger) -> Result<(), ClashAt>
+    requires { SomeRun engine.old (Some (notes_in ledger.old)) }
+    ensures { MatchResult result (λ _. ToEnd engine.old (notes_in ledger.old)) (ToClash engine.old (notes_in ledger.old)) }
 {
-    let mut stamp = first;
-    'order: loop {
-        match turn(script, threads, memory, work, marks, stamp) {
-            Next::On(after) => stamp = after,
-            Next::Clash(at) => return Err(at),
-            Next::End => return Ok(stamp),
-        }
-    }
+    'order: while turn(engine, ledger)? {}
+    Ok(())
 }
 
-// The whole order, from the begin to its end or to its first clash.
-fn lead_text(
-    script: &Script,
-    threads: u32,
-    turns: u32,
-    memory: &mut [u32],
-    work: &mut [u32],
-    marks: &mut [u32],
-) -> Result<Stamp, ClashAt>
-    requires text { SomeText (source script.now) }
-    requires lent { Enough 0 (length memory.old) threads (record { ends = 0; states = threads; work = length work.old; marks = length marks.old }) }
-    ensures { MatchResult result (λ _. LeadsToEnd (source script.now).rows threads turns memory.old) (LeadsToClash (source script.now).rows threads turns memory.old) }
+// The whole order, from the begin to its end or to its first clash; at its end, in which stretch it is.
+fn lead_text(engine: &mut Engine, turns: u32, marks: &mut [u32]) -> Result<u32, ClashAt>
+    requires text { SomeText (source engine.old.script.now) }
+    requires room { ledger_words (length engine.old.memory.now) ≤ length marks.old }
+    ensures { MatchResult result (λ _. LeadsToEnd engine.old turns) (LeadsToClash engine.old turns) }
 {
-    begin_all(work, threads, turns);
-    let stamp = open(marks);
-    carry_on(script, threads, memory, work, marks, stamp)
+    engine.begin(turns);
+    let mut ledger = Ledger::open(marks);
+    carry_on(engine, &mut ledger)?;
+    Ok(ledger.stretch())
 }
 
-// Leads the rows by so many threads, with so many turns each, through the order in which the first thread that is
-// going takes each step, up to its first clash. The memory is then as the order left it.
-pub fn lead<'a>(
-    rows: &'a [u32],
-    ends: &'a mut [u32],
-    threads: u32,
-    turns: u32,
-    memory: &mut [u32],
-    work: &mut [u32],
-    marks: &mut [u32],
-) -> Led
-    ensures { LedSays rows.now threads turns (record { ends = length ends.entry.now; states = threads; work = length work.old; marks = length marks.old }) memory.old result }
+// Leads a job through the order in which the first thread that is going takes each step, up to its first clash, and tells
+// in how many stretches it ended. The memory is then as the order left it.
+pub fn lead<'a>(job: Job<'a>, memory: &'a mut [u32], lent: Lent<'a>) -> Result<u32, NotCalm>
+    ensures { LedSays job.entry.rows.now job.entry.threads job.entry.turns (sizes_of lent.entry job.entry.threads) memory.old result }
 {
-    let lent = Lent {
-        ends: ends.len(),
-        states: threads as usize,
-        work: work.len(),
-        marks: marks.len(),
-    };
-    if !enough(rows.len(), memory.len(), threads, lent) {
-        return Led::Few;
-    }
-    let Ok(text) = decode(rows, ends) else {
-        return Led::NoText;
-    };
+    let sizes = lent.sizes(job.threads as usize);
+    let Lent { ends, work, marks } = lent;
+    let text = job.text(memory.len(), sizes, ends)?;
     let script = Script {
-        rows,
+        rows: job.rows,
         ends,
         variables: text.variables,
     };
-    match lead_text(&script, threads, turns, memory, work, marks) {
-        Ok(stamp) => Led::Calm(stamp.count),
-        Err(at) => Led::Clash(at),
-    }
+    let mut engine = Engine {
+        script: &script,
+        threads: job.threads,
+        work,
+        memory,
+    };
+    Ok(lead_text(&mut engine, job.turns, marks)?)
 }

@@ -1,112 +1,79 @@
 // One order, step by step to its end.
-ghost use Rattle.std.specs.Prelude.{◌≡◌, ◌*◌, ◌<◌, ◌≤◌, length};
+// Engine and watch go side by side: of a struct that holds both nothing is known of what the lent words end as. For that
+// reason `SomeRun`, which speaks of both, is asked by each function and is no invariant.
+ghost use Rattle.std.specs.Prelude.{◌≡◌, ◌<◌, ◌≤◌, length};
+ghost use Rattle.machine.specs.Engines.{Stays};
 ghost use Rattle.machine.specs.Stands.{source};
 ghost use Rattle.machine.specs.Together.{status_at};
 ghost use Rattle.ledger.specs.Runs.{ledger_words};
-ghost use Rattle.kernel.specs.Order.{board, SomeRun, WentOn, Turned, Played};
+ghost use Rattle.kernel.specs.Watching.{told_in};
+ghost use Rattle.kernel.specs.Order.{SomeRun, WentOn, Turned, Played};
 ghost use Rattle.kernel.specs.Ran.{SomeText, OrderPost};
 
-use crate::choice::next_going;
+use crate::choice::next_of;
 use crate::draw::Draw;
 use crate::states::write_states;
 use crate::watch::Watch;
-use ledger::open;
-use machine::all::{begin_all, step_of};
-use machine::release::{Released, release_all};
-use machine::script::Script;
+use machine::Engine;
 use model::ThreadId;
 
 // A thread that is going takes a step, and what it touched is noted.
-fn advance(
-    script: &Script,
-    threads: u32,
-    thread: ThreadId,
-    memory: &mut [u32],
-    work: &mut [u32],
-    marks: &mut [u32],
-    watch: Watch,
-) -> Watch
-    requires some { SomeRun (source script.now) threads (board work.old memory.old marks.old watch) }
-    requires within { thread.0 < threads }
-    requires goes { status_at work.old thread.0 ≡ 0 }
-    ensures { WentOn (source script.now) threads (board work.old memory.old marks.old watch) (board work.new memory.new marks.new result) }
+fn advance(engine: &mut Engine, watch: &mut Watch, thread: ThreadId)
+    requires some { SomeRun engine.old (told_in watch.old) }
+    requires within { thread.0 < engine.old.threads }
+    requires goes { status_at engine.old.work.now thread.0 ≡ 0 }
+    ensures on { WentOn engine.old (told_in watch.old) engine.new (told_in watch.new) }
+    ensures stays { Stays engine.old engine.new }
 {
-    let touched = step_of(script, work, memory, thread, threads);
-    watch.noted(marks, thread, touched)
+    let touch = engine.step(thread);
+    watch.noted(thread, touch);
 }
 
-// A drawn thread takes a step, or, where none is going, all that wait go on; nothing at an end.
-fn turn(
-    script: &Script,
-    threads: u32,
-    memory: &mut [u32],
-    work: &mut [u32],
-    marks: &mut [u32],
-    watch: Watch,
-    draw: &mut Draw,
-) -> Option<Watch>
-    requires { SomeRun (source script.now) threads (board work.old memory.old marks.old watch) }
-    ensures { Turned (source script.now) threads (board work.old memory.old marks.old watch) (board work.new memory.new marks.new) result }
+// A drawn thread takes a step, or, where none is going, all that wait go on, and the order with it; nothing at an end.
+fn turn(engine: &mut Engine, watch: &mut Watch, draw: &mut Draw) -> bool
+    requires { SomeRun engine.old (told_in watch.old) }
+    ensures turned { Turned engine.old (told_in watch.old) engine.new (told_in watch.new) result }
+    ensures stays { Stays engine.old engine.new }
 {
-    let from = draw.below(threads);
-    if let Some(thread) = next_going(work, threads, from) {
-        return Some(advance(script, threads, thread, memory, work, marks, watch));
+    let from = draw.below(engine.threads);
+    if let Some(thread) = next_of(engine, from) {
+        advance(engine, watch, thread);
+        return true;
     }
-    match release_all(work, threads) {
-        Released::Waiting => Some(watch.resumed(marks)),
-        Released::Nobody | Released::End => None,
+    if !engine.resume() {
+        return false;
     }
+    watch.resumed();
+    true
 }
 
 // The order is carried on to an end.
-fn play(
-    script: &Script,
-    threads: u32,
-    memory: &mut [u32],
-    work: &mut [u32],
-    marks: &mut [u32],
-    watch: Watch,
-    draw: &mut Draw,
-) -> Watch
-    requires { SomeRun (source script.now) threads (board work.old memory.old marks.old watch) }
-    ensures { Played (source script.now) threads (board work.old memory.old marks.old watch) (board work.new memory.new marks.new result) }
+fn play(engine: &mut Engine, watch: &mut Watch, draw: &mut Draw)
+    requires { SomeRun engine.old (told_in watch.old) }
+    ensures played { Played engine.old (told_in watch.old) engine.new (told_in watch.new) }
+    ensures stays { Stays engine.old engine.new }
 {
-    let mut told = watch;
-    'order: while let Some(next) = turn(script, threads, memory, work, marks, told, draw) {
-        told = next;
-    }
-    told
+    'order: while turn(engine, watch, draw) {}
 }
 
 // One order of the text, from the begin to its end, with each next thread drawn: what it leaves in the memory,
 // what each thread is at, and whether two threads clashed on the way.
 pub fn run_order(
-    script: &Script,
-    threads: u32,
+    engine: &mut Engine,
     turns: u32,
-    memory: &mut [u32],
-    states: &mut [u8],
-    work: &mut [u32],
     marks: &mut [u32],
+    states: &mut [u8],
     draw: &mut Draw,
 ) -> bool
-    requires text { SomeText (source script.now) }
-    requires words { 1024 * threads ≤ length work.old }
-    requires room { ledger_words (length memory.old) ≤ length marks.old }
-    requires places { threads ≤ length states.old }
-    ensures { OrderPost (source script.now).rows threads turns memory.old memory.new states.old states.new result }
+    requires text { SomeText (source engine.old.script.now) }
+    requires room { ledger_words (length engine.old.memory.now) ≤ length marks.old }
+    requires places { engine.old.threads ≤ length states.old }
+    ensures order { OrderPost (source engine.old.script.now).rows engine.old.threads turns engine.old.memory.now engine.new.memory.now states.old states.new result }
+    ensures stays { Stays engine.old engine.new }
 {
-    begin_all(work, threads, turns);
-    let stamp = open(marks);
-    let told = play(
-        script,
-        threads,
-        memory,
-        work,
-        marks,
-        Watch::Quiet(stamp),
-        draw,
-    );
-    write_states(work, threads, states);
-    told.clashed()
+    engine.begin(turns);
+    let mut watch = Watch::open(marks);
+    play(engine, &mut watch, draw);
+    write_states(engine, states);
+    watch.clashed()
 }

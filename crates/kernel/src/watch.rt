@@ -1,84 +1,77 @@
 // What is told of an order so far: touches are noted until two threads have clashed.
 ghost use Rattle.std.specs.Prelude.{◌≡◌, ◌+◌, ◌*◌, ◌<◌, length};
-ghost use Rattle.machine.specs.Rules.{how, touches};
-ghost use Rattle.ledger.specs.Ways.{way};
-ghost use Rattle.ledger.specs.Places.{ledger};
-ghost use Rattle.ledger.specs.Promises.{NotePost};
-ghost use Rattle.kernel.specs.Watching.{Within, touching, resuming, Watched, has_clashed};
+ghost use Rattle.machine.specs.Rules.{touches};
+ghost use Rattle.ledger.specs.Lent.{notes_in, SameMarks};
+ghost use Rattle.ledger.specs.Promises.{NotePost, OpenPost};
+ghost use Rattle.kernel.specs.Watching.{told_in, Within, Opened, touching, resuming, Watched, has_clashed};
 
-use ledger::{Access as Way, Noted, Stamp, next_stretch, note};
-use machine::touched::{Access, Change, Touched};
+use ledger::{Access, Change, Earlier, Ledger};
+use machine::Touch;
 use model::{Place, ThreadId};
 
-// `Quiet` has the stamp of the stretch.
-#[derive(Clone, Copy)]
-pub enum Watch {
-    Quiet(Stamp),
-    Clashed,
-}
-
-fn way_of(access: Access) -> Way
-    ensures { way result ≡ how access }
-{
-    match access {
-        Access::Reading => Way::Read,
-        Access::Changing(Change::Write) => Way::Write,
-        Access::Changing(Change::Add) => Way::Add,
-    }
-}
-
-// Notes a touch in the marks. Each way of touching has a call of its own, so that it is compiled for that way alone.
+// Notes a touch. Each way of touching has a call of its own, so that it is compiled for that way alone: with one call for
+// all of them a run takes up to a tenth more instructions.
 pub fn note_touch(
-    marks: &mut [u32],
-    stamp: Stamp,
+    ledger: &mut Ledger,
     thread: ThreadId,
     place: Place,
     access: Access,
-) -> Noted
-    requires { 2 * place.0 + 1 < length marks.old }
-    ensures { NotePost (ledger marks.old stamp.count) (ledger marks.new stamp.count) thread.0 place.0 (how access) result }
+) -> Result<(), Earlier>
+    requires within { 2 * place.0 + 1 < length ledger.old.marks.now }
+    ensures noted { NotePost (notes_in ledger.old) (notes_in ledger.new) thread.0 place.0 access result }
+    ensures same_marks { SameMarks ledger.old ledger.new }
 {
     match access {
-        Access::Reading => note(marks, stamp, thread, place, Way::Read),
-        Access::Changing(Change::Write) => note(marks, stamp, thread, place, Way::Write),
-        Access::Changing(Change::Add) => note(marks, stamp, thread, place, Way::Add),
+        Access::Reading => ledger.note(thread, place, Access::Reading),
+        Access::Changing(Change::Write) => {
+            ledger.note(thread, place, Access::Changing(Change::Write))
+        }
+        Access::Changing(Change::Add) => {
+            ledger.note(thread, place, Access::Changing(Change::Add))
+        }
     }
 }
 
-impl Watch {
-    // A thread took a step, and touched this.
-    pub fn noted(self, marks: &mut [u32], thread: ThreadId, touched: Touched) -> Watch
-        requires { Within (length marks.old) touched }
-        ensures { Watched (touching thread.0 (touches touched)) self marks.old result marks.new }
+// The ledger, while there was no clash.
+#[derive(Drop)]
+pub struct Watch<'a>(pub Option<Ledger<'a>>);
+
+impl<'a> Watch<'a> {
+    // An order begins, and nothing is noted.
+    pub fn open(marks: &'a mut [u32]) -> Watch<'a>
+        ensures { Opened (length marks.old) (told_in result) }
     {
-        let Watch::Quiet(stamp) = self else {
-            return self;
+        Watch(Some(Ledger::open(marks)))
+    }
+
+    // A thread took a step, and touched this.
+    pub fn noted(&mut self, thread: ThreadId, touch: Option<Touch>)
+        requires { Within (told_in self.old) touch }
+        ensures { Watched (touching thread.0 (touches touch)) (told_in self.old) (told_in self.new) }
+    {
+        let Some(Touch { place, access }) = touch else {
+            return;
         };
-        let Touched::At(place, access) = touched else {
-            return self;
+        let Some(ledger) = &mut self.0 else {
+            return;
         };
-        match note(marks, stamp, thread, place, way_of(access)) {
-            Noted::Fine => self,
-            Noted::Clash(_) => Watch::Clashed,
+        if ledger.note(thread, place, access).is_err() {
+            self.0 = None;
         }
     }
 
     // All that wait go on.
-    pub fn resumed(self, marks: &mut [u32]) -> Watch
-        ensures { Watched resuming self marks.old result marks.new }
+    pub fn resumed(&mut self)
+        ensures { Watched resuming (told_in self.old) (told_in self.new) }
     {
-        match self {
-            Watch::Quiet(stamp) => Watch::Quiet(next_stretch(marks, stamp)),
-            Watch::Clashed => Watch::Clashed,
+        if let Some(ledger) = &mut self.0 {
+            ledger.next_stretch();
         }
     }
 
-    pub fn clashed(self) -> bool
-        ensures { result ≡ has_clashed self }
+    pub fn clashed(&self) -> bool
+        ensures { result ≡ has_clashed (told_in self.now) }
     {
-        match self {
-            Watch::Quiet(_) => false,
-            Watch::Clashed => true,
-        }
+        self.0.is_none()
     }
 }

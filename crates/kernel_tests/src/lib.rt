@@ -6,26 +6,24 @@ ghost use Rattle.std.specs.Prelude.{◌≡◌, ◌^◌, ◌<◌, length};
 ghost use Rattle.kernel.specs.Says.{floor as words_asked};
 
 use kernel::draw::Draw;
-use kernel::drawn::{Drawn, draw_order};
-use kernel::led::{Led, lead};
-use kernel::{Clash, Ran, run};
-use model::{Place, ThreadId};
+use kernel::drawn::draw_order;
+use kernel::led::{lead, meets};
+use kernel::{Clash, Job, Lent, Ran, Refused, run};
 use std::alloc::{AllocError, Global};
 
-// What is run: rows, by so many threads with so many turns each, on a memory.
+// A job, and the memory that it is run on.
 #[derive(Clone, Copy)]
 pub struct Case<'a> {
-    pub rows: &'a [u32],
-    pub threads: u32,
-    pub turns: u32,
+    pub job: Job<'a>,
     pub memory: &'a [u32],
 }
 
-// What comes of it: every order leaves this memory and these states; or two threads clash at a place.
+// What comes of it: every order leaves this memory and these states; or two threads clash at a place. Neither is an error, so
+// it is no `Result`.
 #[derive(Clone, Copy)]
 pub enum Expected<'a> {
     Even(&'a [u32], &'a [u8]),
-    Uneven(u32, u32, usize),
+    Uneven(Clash),
 }
 
 // What `run` answers and leaves. The memory is as the case has it before, and each state byte is 9.
@@ -36,15 +34,15 @@ pub struct Left {
     pub states: Vec<u8>,
 }
 
-// Runs the case with so many state bytes and work words.
+// Runs the case with so many state bytes and work words. Tests name all that is lent, so it goes to the helpers as it is.
 pub fn run_lent(heap: Global, case: Case, bytes: usize, words: usize) -> Result<Left, AllocError> {
     let mut memory = case.memory.to_vec(heap)?;
     let mut states = vec![in heap; 9u8; bytes]?;
     let mut work = vec![in heap; 7; words]?;
     let ran = run(
-        case.rows,
-        case.threads,
-        case.turns,
+        case.job.rows,
+        case.job.threads,
+        case.job.turns,
         &mut memory,
         &mut states,
         &mut work,
@@ -56,28 +54,24 @@ pub fn run_lent(heap: Global, case: Case, bytes: usize, words: usize) -> Result<
     })
 }
 
-// How many work words the case asks for.
+// How many work words the case asks for: computed by itself, and held to what `run` asks for by its contract.
 pub fn floor(case: Case) -> usize
-    ensures { length case.entry.rows.now < 2 ^ 32 → length case.entry.memory.now < 2 ^ 32 → result ≡ words_asked (length case.entry.rows.now) (length case.entry.memory.now) case.entry.threads }
+    ensures { length case.entry.job.rows.now < 2 ^ 32 → length case.entry.memory.now < 2 ^ 32 → result ≡ words_asked (length case.entry.job.rows.now) (length case.entry.memory.now) case.entry.job.threads }
 {
-    (1024 * case.threads as usize + 4096)
-        .saturating_add(case.rows.len().saturating_mul(8))
+    (1024 * case.job.threads as usize + 4096)
+        .saturating_add(case.job.rows.len().saturating_mul(8))
         .saturating_add(case.memory.len().saturating_mul(4))
 }
 
 // Whether nothing was handed out.
 fn untouched(left: &Left, case: Case) -> bool {
-    let mut same = *left.memory.as_slice() == *case.memory;
-    for state in left.states.as_slice() {
-        same = same && *state == 9;
-    }
-    same
+    *left.memory.as_slice() == *case.memory && left.states.iter().all(|state| *state == 9)
 }
 
 // Whether `run` comes to what is expected, with no more lent than it asks for, and three bytes more than
 // there are threads, which stay as they are.
 pub fn runs_so(heap: Global, case: Case, expected: Expected) -> Result<bool, AllocError> {
-    let threads = case.threads as usize;
+    let threads = case.job.threads as usize;
     let left = run_lent(heap, case, threads + 3, floor(case))?;
     Ok(match (left.ran, expected) {
         (Ran::Even, Expected::Even(memory, states)) => {
@@ -88,12 +82,7 @@ pub fn runs_so(heap: Global, case: Case, expected: Expected) -> Result<bool, All
                 .split_at(threads.min(left.states.len()));
             *left.memory.as_slice() == *memory && *told == *states && *others == *nines
         }
-        (Ran::Uneven(clash), Expected::Uneven(first, second, place)) => {
-            clash.first.0 == first
-                && clash.second.0 == second
-                && clash.place.0 == place
-                && untouched(&left, case)
-        }
+        (Ran::Uneven(clash), Expected::Uneven(told)) => clash == told && untouched(&left, case),
         _ => false,
     })
 }
@@ -101,21 +90,22 @@ pub fn runs_so(heap: Global, case: Case, expected: Expected) -> Result<bool, All
 // Whether `run` answers few with so much lent, and leaves everything as it was.
 pub fn runs_few(heap: Global, case: Case, bytes: usize, words: usize) -> Result<bool, AllocError> {
     let left = run_lent(heap, case, bytes, words)?;
-    Ok(matches!(left.ran, Ran::Few) && untouched(&left, case))
+    Ok(left.ran == Ran::Few && untouched(&left, case))
 }
 
 // Whether `run` answers even with so much lent.
 pub fn runs_even(heap: Global, case: Case, bytes: usize, words: usize) -> Result<bool, AllocError> {
-    Ok(matches!(run_lent(heap, case, bytes, words)?.ran, Ran::Even))
+    Ok(run_lent(heap, case, bytes, words)?.ran == Ran::Even)
 }
 
 // Whether `run` answers that the rows are no text, with no more lent than it asks for, and leaves everything.
 pub fn runs_no_text(heap: Global, case: Case) -> Result<bool, AllocError> {
-    let left = run_lent(heap, case, case.threads as usize, floor(case))?;
-    Ok(matches!(left.ran, Ran::NoKernel) && untouched(&left, case))
+    let left = run_lent(heap, case, case.job.threads as usize, floor(case))?;
+    Ok(left.ran == Ran::NoKernel && untouched(&left, case))
 }
 
-// What drawn orders of a case are lent, with no more than they take. Each finds what the one before it left.
+// What drawn orders of a case are lent, with no more than they take, as the trial's are not. Each finds what the one before
+// it left.
 #[derive(Drop)]
 struct Desk {
     ends: Vec<u32>,
@@ -128,33 +118,39 @@ struct Desk {
 impl Desk {
     fn new(heap: Global, case: Case) -> Result<Desk, AllocError> {
         Ok(Desk {
-            ends: vec![in heap; 0; case.rows.len()]?,
+            ends: vec![in heap; 0; case.job.rows.len()]?,
             marks: vec![in heap; 0; case.memory.len().max(1).saturating_mul(2)]?,
-            work: vec![in heap; 0; 1024 * case.threads as usize]?,
-            states: vec![in heap; 9u8; case.threads as usize]?,
+            work: vec![in heap; 0; 1024 * case.job.threads as usize]?,
+            states: vec![in heap; 9u8; case.job.threads as usize]?,
             draw: Draw::new(1),
         })
     }
 
     // Runs the case in one more order, and gives what came of it and the memory that it left.
-    fn run_order(&mut self, heap: Global, case: Case) -> Result<(Drawn, Vec<u32>), AllocError> {
+    fn run_order(
+        &mut self,
+        heap: Global,
+        case: Case,
+    ) -> Result<(Result<bool, Refused>, Vec<u32>), AllocError> {
         let mut memory = case.memory.to_vec(heap)?;
+        let lent = Lent {
+            ends: &mut self.ends,
+            work: &mut self.work,
+            marks: &mut self.marks,
+        };
         let drawn = draw_order(
-            case.rows,
-            &mut self.ends,
-            case.threads,
-            case.turns,
+            case.job,
             &mut memory,
             &mut self.states,
-            &mut self.work,
-            &mut self.marks,
+            lent,
             &mut self.draw,
         );
         Ok((drawn, memory))
     }
 }
 
-// Whether each of twenty orders ends with a clash, or each without one and with this memory and these states.
+// Whether each of twenty orders ends with a clash, or each without one and with this memory and these states. Where each
+// clashes what they leave is chance, and is not looked at; so it is a flag and no `Expected`: no clash is named.
 pub fn each_order(
     heap: Global,
     case: Case,
@@ -165,7 +161,7 @@ pub fn each_order(
     let mut desk = Desk::new(heap, case)?;
     for _ in 0..20 {
         let (drawn, memory) = desk.run_order(heap, case)?;
-        let Drawn::Ended(clashed) = drawn else {
+        let Ok(clashed) = drawn else {
             return Ok(false);
         };
         let alike = clash || (*memory.as_slice() == *left && *desk.states.as_slice() == *states);
@@ -191,26 +187,19 @@ pub fn some_order(heap: Global, case: Case, left: &[u32]) -> Result<bool, AllocE
 // Whether the order of `run`, led step by step, ends in the memory that is expected, or meets the clash again. It is lent
 // as much as `run`.
 pub fn led_so(heap: Global, case: Case, expected: Expected) -> Result<bool, AllocError> {
-    let mut ends = vec![in heap; 0; case.rows.len()]?;
+    let mut ends = vec![in heap; 0; case.job.rows.len()]?;
     let mut marks = vec![in heap; 7; case.memory.len().max(1).saturating_mul(2)]?;
     let mut work = vec![in heap; 7; floor(case)]?;
     let mut memory = case.memory.to_vec(heap)?;
-    let led = lead(
-        case.rows,
-        &mut ends,
-        case.threads,
-        case.turns,
-        &mut memory,
-        &mut work,
-        &mut marks,
-    );
+    let lent = Lent {
+        ends: &mut ends,
+        work: &mut work,
+        marks: &mut marks,
+    };
+    let led = lead(case.job, &mut memory, lent);
     Ok(match expected {
-        Expected::Even(left, _) => matches!(led, Led::Calm(_)) && *memory.as_slice() == *left,
-        Expected::Uneven(first, second, place) => led.meets(Clash {
-            first: ThreadId(first),
-            second: ThreadId(second),
-            place: Place(place),
-        }),
+        Expected::Even(left, _) => led.is_ok() && *memory.as_slice() == *left,
+        Expected::Uneven(told) => meets(led, told),
     })
 }
 
@@ -234,23 +223,24 @@ pub fn few(
     let rows = [1, 1, 3, 0, 2, 1, 8, 5, 0, 0, 1, 0];
     let mut memory = [5, 7];
     let mut draw = Draw::new(1);
-    let drawn = draw_order(
-        &rows,
-        &mut ends,
-        2,
-        9,
-        &mut memory,
-        &mut states,
-        &mut work,
-        &mut marks,
-        &mut draw,
-    );
-    Ok(matches!(drawn, Drawn::Few))
+    let job = Job {
+        rows: &rows,
+        threads: 2,
+        turns: 9,
+    };
+    let lent = Lent {
+        ends: &mut ends,
+        work: &mut work,
+        marks: &mut marks,
+    };
+    let drawn = draw_order(job, &mut memory, &mut states, lent, &mut draw);
+    Ok(matches!(drawn, Err(Refused::Few)))
 }
 
 #[cfg(test)]
 mod tests {
     use super::*;
+    use model::{Place, ThreadId};
     use std::test::Fail;
 
     const ROTATE: [u32; 24] = [
@@ -262,12 +252,20 @@ mod tests {
     ];
 
     fn case<'a>(rows: &'a [u32], threads: u32, turns: u32, memory: &'a [u32]) -> Case<'a> {
-        Case {
+        let job = Job {
             rows,
             threads,
             turns,
-            memory,
-        }
+        };
+        Case { job, memory }
+    }
+
+    fn uneven(first: u32, second: u32, place: usize) -> Expected<'static> {
+        Expected::Uneven(Clash {
+            first: ThreadId(first),
+            second: ThreadId(second),
+            place: Place(place),
+        })
     }
 
     #[test]
@@ -370,7 +368,7 @@ mod tests {
         let sum = case(&[1, 1, 3, 0, 2, 1, 8, 5, 0, 0, 1, 0], 2, 9, &[5, 7]);
         assert!(rt; agree(heap, sum, Expected::Even(&[17, 7], &[2, 2]))?);
         let no_wait = case(&[1, 1, 3, 0, 2, 5, 0, 0, 1, 0], 2, 9, &[5, 7]);
-        assert!(rt; agree(heap, no_wait, Expected::Uneven(0, 1, 0))?);
+        assert!(rt; agree(heap, no_wait, uneven(0, 1, 0))?);
         let many = case(&[0, 5, 0, 0, 0, 1], 500, 1, &[4_294_967_000]);
         let ended = vec![in heap; 2u8; 500]?;
         assert!(rt; agree(heap, many, Expected::Even(&[204], ended.as_slice()))?);
@@ -381,9 +379,9 @@ mod tests {
     fn runs_of_writes(rt: HostRuntime) -> Result<(), Fail> {
         let heap = rt.alloc();
         let rows = [0, 4, 0, 0, 2];
-        assert!(rt; agree(heap, case(&rows, 2, 1, &[9]), Expected::Uneven(0, 1, 0))?);
+        assert!(rt; agree(heap, case(&rows, 2, 1, &[9]), uneven(0, 1, 0))?);
         assert!(rt; agree(heap, case(&rows, 1, 1, &[9]), Expected::Even(&[0], &[2]))?);
-        assert!(rt; agree(heap, case(&rows, 2, 1, &[]), Expected::Uneven(0, 1, 0))?);
+        assert!(rt; agree(heap, case(&rows, 2, 1, &[]), uneven(0, 1, 0))?);
         let operations = case(
             &[0, 1, 4, 0, 0, 4, 4, 0, 9, 0, 0, 4, 0, 1, 4, 1, 0, 0, 0, 1],
             1,
@@ -419,13 +417,7 @@ mod tests {
         let memory = [0; 4];
         let rotated = Expected::Even(&[1, 2, 3, 0], &[2; 4]);
         assert!(rt; agree(heap, case(&ROTATE, 4, 1, &memory), rotated)?);
-        assert!(rt;
-            agree(
-                heap,
-                case(&ROTATE_NO_WAIT, 4, 1, &memory),
-                Expected::Uneven(0, 1, 1),
-            )?
-        );
+        assert!(rt; agree(heap, case(&ROTATE_NO_WAIT, 4, 1, &memory), uneven(0, 1, 1),)?);
         Ok(())
     }
 
@@ -462,7 +454,7 @@ mod tests {
             (case(&longer, 2, 9, &[5, 7]), 6280),
             (case(&[0, 0], 0, 9, &[]), 4112),
         ] {
-            let bytes = case.threads as usize;
+            let bytes = case.job.threads as usize;
             assert!(rt; runs_even(heap, case, bytes, words)?);
             assert!(rt; runs_few(heap, case, bytes, words - 1)?);
             assert!(rt; bytes == 0 || runs_few(heap, case, bytes.saturating_sub(1), words)?);

@@ -3,11 +3,10 @@ use Rattle.std.proofs.Common.{◌≡◌, ℕ, ◌<◌, ◌≤◌, Bool, true, fa
 use mathlib.Core.Bool.{false≢true}
 use native.Mathlib.Decide.{ℕ_discrete}
 use Rattle.std.proofs.lemmas.Bool.{eqb-true, eqb-false, and_parts, and_cases, not-true, not-false}
-use Rattle.model.specs.Kernel.{write, add}
-use Rattle.model.specs.Steps.{Access, reading, changing}
+use Rattle.model.specs.declared.Access.{Access}
 use Rattle.model.specs.Races.{together}
 use Rattle.ledger.specs.declared.mark.Mark.{Mark}
-use Rattle.ledger.specs.Marks.{has, flagged, blank, fresh, shared_mark, admits, noted}
+use Rattle.ledger.specs.Marks.{has, flagged, blank, fresh, shared_mark, admits, again, noted}
 use Rattle.ledger.specs.Tells.{Marked, Told, FirstLeast}
 use Rattle.ledger.proofs.Flags.{same_way, with_flag, shared_has, admitted, refused}
 
@@ -30,7 +29,7 @@ module _ (m : Mark) (now i : ℕ) (h : Access) where
   taken_mine e true b = let both = and_parts _ _ b in mine e (not-true _ both.0) (eqb-true _ _ both.1)
   taken_mine e false b = taken_admits e (others b) (admits m h) refl
 
-  taken_old : (b : Bool) → eqb m.stamp now ≡ b → Taken m now i h (cond b (cond (not m.shared && eqb m.first.0 i) (Some (flagged m h)) (cond (admits m h) (Some (shared_mark m)) None)) (Some (fresh now i h)))
+  taken_old : (b : Bool) → eqb m.stamp now ≡ b → Taken m now i h (cond b (again m i h) (Some (fresh now i h)))
   taken_old true e = taken_mine (eqb-true _ _ e) (not m.shared && eqb m.first.0 i) refl
   taken_old false e = stale (eqb-false _ _ e)
 
@@ -38,15 +37,16 @@ module _ (m : Mark) (now i : ℕ) (h : Access) where
   taken = taken_old (eqb m.stamp now) refl
 
 blank_tells_none : (now i : ℕ) (k : Access) → has (blank now i) k ≡ true → ⊥
-blank_tells_none now i reading e = false≢true e
-blank_tells_none now i (changing write) e = false≢true e
-blank_tells_none now i (changing add) e = false≢true e
+blank_tells_none now i k e = grind arith
 
 -- By' is By, with the touch of thread i in way h.
 pub record OneMore (By By' : ℕ → Access → Type 0) (i : ℕ) (h : Access) : Type 0 where
   pub keeps : (j : ℕ) (k : Access) → By j k → By' j k
   pub adds : By' i h
   pub only : (j : ℕ) (k : Access) → By' j k → By j k ⊎ ((j ≡ i) × (k ≡ h))
+
+never_both : {A : Type 0} {b : Bool} → b ≡ false → b ≡ true → A
+never_both f t = absurd (false≢true (sym f ∙ t))
 
 -- a mark tells of no clash
 pub told_apart : {now : ℕ} {m : Mark} {By : ℕ → Access → Type 0} → Told now m By → (i j : ℕ) (h k : Access) → (i ≡ j → ⊥) → By i h → By j k → together h k ≡ false → ⊥
@@ -57,7 +57,7 @@ told_apart {now} {m} {By} told i j h k differ by_i by_j apart = elim (ℕ_discre
   where
     go : Marked m By → (b : Bool) → m.shared ≡ b → ⊥
     go marked false s = differ (marked.alone s i h by_i ∙ sym (marked.alone s j k by_j))
-    go marked true s = false≢true (sym apart ∙ marked.alike s h k (marked.told i h by_i) (marked.told j k by_j))
+    go marked true s = never_both apart (marked.alike s h k (marked.told i h by_i) (marked.told j k by_j))
 
 -- it says the same of the same touches
 pub told_same : {now : ℕ} {m : Mark} {By By' : ℕ → Access → Type 0} → Told now m By → ((j : ℕ) (k : Access) → By j k → By' j k) → ((j : ℕ) (k : Access) → By' j k → By j k) → Told now m By'
@@ -89,8 +89,8 @@ module _ {now : ℕ} {m : Mark} {By By' : ℕ → Access → Type 0} {i : ℕ} {
         told = λ j k by. elim (more.only j k by) [ inl b ↦ absurd (told.old o j k b) | inr e ↦ subst (λ k. has (fresh now i h) k ≡ true) (sym e.1) w.adds ];
         by_first = λ k f. elim (w.only k f) [ inl b ↦ absurd (blank_tells_none now i k b) | inr e ↦ by_i _ k (cc) e ];
         alone = λ _ j k by. elim (more.only j k by) [ inl b ↦ absurd (told.old o j k b) | inr e ↦ cc ];
-        other = λ s. absurd (false≢true (sym w.shared ∙ s));
-        alike = λ s. absurd (false≢true (sym w.shared ∙ s));
+        other = λ s. never_both w.shared s;
+        alike = λ s. never_both w.shared s;
       })
 
   mine_told : m.stamp ≡ now → m.shared ≡ false → m.first.0 ≡ i → Told now (flagged m h) By'
@@ -102,8 +102,8 @@ module _ {now : ℕ} {m : Mark} {By By' : ℕ → Access → Type 0} {i : ℕ} {
         told = λ j k by. elim (more.only j k by) [ inl b ↦ w.keeps k (marked.told j k b) | inr e ↦ subst (λ k. has (flagged m h) k ≡ true) (sym e.1) w.adds ];
         by_first = λ k g. elim (w.only k g) [ inl b ↦ subst (λ j. By' j k) (cc) (more.keeps _ k (marked.by_first k b)) | inr e ↦ by_i _ k (cc) e ];
         alone = λ _ j k by. elim (more.only j k by) [ inl b ↦ let z = marked.alone s j k b in cc | inr e ↦ cc ];
-        other = λ t. absurd (false≢true (sym s ∙ (sym w.shared ∙ t)));
-        alike = λ t. absurd (false≢true (sym s ∙ (sym w.shared ∙ t)));
+        other = λ t. never_both (w.shared ∙ s) t;
+        alike = λ t. never_both (w.shared ∙ s) t;
       })
 
   shared_told : m.stamp ≡ now → (m.shared ≡ true) ⊎ (m.first.0 ≡ i → ⊥) → admits m h ≡ true → Told now (shared_mark m) By'
@@ -115,7 +115,7 @@ module _ {now : ℕ} {m : Mark} {By By' : ℕ → Access → Type 0} {i : ℕ} {
         some = (h, shared_has m h ∙ has_h);
         told = λ j k by. shared_has m k ∙ elim (more.only j k by) [ inl b ↦ marked.told j k b | inr e ↦ subst (λ k. has m k ≡ true) (sym e.1) has_h ];
         by_first = λ k f. more.keeps _ k (marked.by_first k (sym (shared_has m k) ∙ f));
-        alone = λ s. absurd (false≢true (sym s));
+        alone = λ s. never_both s refl;
         other = λ _. elim o [ inl s ↦ let p = marked.other s in (p.0, p.1, p.2, more.keeps _ _ p.3) | inr n ↦ (i, h, (λ e. n (sym e)), more.adds) ];
         alike = λ _ k l f g. subst (λ x. together k x ≡ true) (sym (same_way l h (goes l g))) (goes k f);
       })

@@ -1,9 +1,13 @@
 -- The touches of all threads: what a step adds to them, and what is left when all go on.
 use Rattle.std.proofs.Common.{◌≡◌, ℕ, zero, suc, false, ◌⊎◌, List, [], ◌∷◌, ◌++◌, length, set, replicate, Some, sym, refl, ap, ◌∙◌, subst, inl, inr, arith}
 use native.Mathlib.Decide.{ℕ_discrete}
+use lib.ListN.{length-replicate}
+use Rattle.std.proofs.lemmas.List.{get_or-replicate}
+use Rattle.std.proofs.lemmas.Option.{slice_get_within, get_or_from_slice_get}
 use Rattle.std.specs.List.{slice_get}
+use Rattle.model.specs.declared.Access.{Access}
 use Rattle.model.specs.Kernel.{Kernel}
-use Rattle.model.specs.Steps.{Access, Touch, Thread, State, Effect, own, reads, changes, next_effect, thread_after, stepped, all_released, resumed, begin}
+use Rattle.model.specs.Steps.{Touch, Thread, State, Effect, next_effect, thread_after, stepped, all_released, resumed, begin}
 use Rattle.model.specs.Races.{together, In, here, there, Race}
 use Rattle.model.proofs.Effects.{touches}
 use Rattle.model.proofs.Threads.{nth_set_same, nth_set_other, in_front, in_back, touched_after}
@@ -33,9 +37,7 @@ in_parts (σ ∷ xs) here = inl here
 in_parts (σ ∷ xs) (there x) = elim (in_parts xs x) [ inl y ↦ inl (there y) | inr y ↦ inr y ]
 
 pub touched_by_touches : (e : Effect) → touches e ≡ touched_by e
-touched_by_touches (own t) = refl
-touched_by_touches (reads a t) = refl
-touched_by_touches (changes c a v t) = refl
+touched_by_touches e = grind arith
 
 -- a thread put in place of another, which has touched these places more
 put_grows : (s s' : State) (i : ℕ) (t t' : Thread) (τs : List Touch) → slice_get s.threads i ≡ Some t → s'.threads ≡ set s.threads i t' → t'.touched ≡ t.touched ++ τs → Grows s s' i τs
@@ -85,7 +87,7 @@ untouched_from : (s : State) → ((i : ℕ) (t : Thread) → slice_get s.threads
 untouched_from s none a i h x = in_none (subst (λ ts. In (record { at = a; how = h }) ts) (none i x.t x.is) x.by)
 
 released_none : (ts : List Thread) (i : ℕ) (t : Thread) → slice_get (all_released ts) i ≡ Some t → t.touched ≡ []
-released_none [] i t e = let z : ◌≡◌ {A = ℕ} 0 1 = cc in absurd (omega arith)
+released_none [] i t e = absurd (omega (arith, slice_get_within [] i t e))
 released_none (u ∷ ts) zero t e = cc
 released_none (u ∷ ts) (suc i) t e = released_none ts i t e
 
@@ -93,9 +95,7 @@ pub resumed_untouched : (s : State) → Untouched (resumed s)
 resumed_untouched s = untouched_from (resumed s) (released_none s.threads)
 
 replicate_all : {A : Type 0} (n : ℕ) (x : A) (i : ℕ) (y : A) → slice_get (replicate n x) i ≡ Some y → y ≡ x
-replicate_all zero x i y e = let z : ◌≡◌ {A = ℕ} 0 1 = cc in absurd (omega arith)
-replicate_all (suc n) x zero y e = cc
-replicate_all (suc n) x (suc i) y e = replicate_all n x i y e
+replicate_all n x i y e = sym (get_or_from_slice_get (replicate n x) i y x e) ∙ get_or-replicate n i x x (omega (arith, slice_get_within (replicate n x) i y e, length-replicate n x))
 
 pub begin_untouched : (k : Kernel) (n turns : ℕ) (m : List ℕ) → Untouched (begin k n turns m)
 begin_untouched k n turns m = untouched_from (begin k n turns m) (λ i t e. ap (λ t. t.touched) (replicate_all n _ i t e))

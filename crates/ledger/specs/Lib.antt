@@ -1,7 +1,8 @@
 -- What the marks of places say, and how they tell a clash.
-pub mod Ways
+pub mod Stamps
 pub mod Marks
 pub mod Places
+pub mod Lent
 pub mod Tells
 pub mod Runs
 pub mod Promises

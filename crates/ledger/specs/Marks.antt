@@ -1,7 +1,9 @@
 -- The mark of one place: its words, and what a touch makes of it.
-use Rattle.std.specs.Prelude.{ℕ, ◌+◌, ◌*◌, ◌/◌, ◌%◌, Bool, true, false, cond, not, ◌&&◌, ◌||◌, Some, None, Option, ◌==◌}
-use Rattle.model.specs.Kernel.{bit, write, add}
-use Rattle.model.specs.Steps.{Access, reading, changing}
+use Rattle.std.specs.Prelude.{◌≡◌, ℕ, ◌+◌, ◌*◌, ◌/◌, ◌%◌, Bool, true, false, cond, not, ◌&&◌, ◌||◌, Some, None, Option, ◌==◌}
+use Rattle.model.specs.declared.Change.TheVariants.{Write as write, Add as add}
+use Rattle.model.specs.declared.Access.{Access}
+use Rattle.model.specs.declared.Access.TheVariants.{Reading as reading, Changing as changing}
+use Rattle.model.specs.Kernel.{bit}
 use Rattle.model.specs.Races.{together}
 use Rattle.ledger.specs.declared.mark.Mark.{Mark}
 
@@ -18,6 +20,11 @@ untag first w = record {
   added = (w / 4 % 2 == 1);
   shared = (w / 8 % 2 == 1);
 }
+
+-- the two words of a mark, from which it is read back
+pub record IsPacked (m : Mark) (w : ℕ × ℕ) : Type 0 where
+  pub words : w ≡ (m.first.0, tag m)
+  pub back : untag w.0 w.1 ≡ m
 
 -- whether the mark tells a touch of that way
 abbrev pub has : Mark → Access → Bool
@@ -47,13 +54,10 @@ goes_with m k h = not (has m k) || together k h
 abbrev pub admits : Mark → Access → Bool
 admits m h = goes_with m reading h && (goes_with m (changing write) h && goes_with m (changing add) h)
 
--- The mark after thread i has touched the place in way h, in the stretch `now`; nothing where that is a clash.
-abbrev pub noted : Mark → ℕ → ℕ → Access → Option Mark
-noted m now i h =
-    cond (m.stamp == now)
-    (cond (not m.shared && m.first.0 == i) (Some (flagged m h)) (cond (admits m h) (Some (shared_mark m)) None))
-    (Some (fresh now i h))
-
--- .. where the mark is of this stretch: after one more touch
+-- The mark of this stretch after thread i has touched the place once more, in way h; nothing where that is a clash.
 abbrev pub again : Mark → ℕ → Access → Option Mark
 again m i h = cond (not m.shared && m.first.0 == i) (Some (flagged m h)) (cond (admits m h) (Some (shared_mark m)) None)
+
+-- The mark of any stretch after that, in the stretch `now`.
+abbrev pub noted : Mark → ℕ → ℕ → Access → Option Mark
+noted m now i h = cond (m.stamp == now) (again m i h) (Some (fresh now i h))

@@ -1,11 +1,12 @@
 -- What it means that the marks tell who touched what since all last went on.
 use Rattle.std.specs.Prelude.{◌≡◌, ℕ, ◌≤◌, true, false, ◌⊎◌, List, Some, ◌≢◌}
 use Rattle.std.specs.List.{slice_get}
-use Rattle.model.specs.Steps.{Access, Touch, Thread, State}
+use Rattle.model.specs.declared.Access.{Access}
+use Rattle.model.specs.Steps.{Touch, Thread, State}
 use Rattle.model.specs.Races.{together, In}
 use Rattle.ledger.specs.declared.mark.Mark.{Mark}
 use Rattle.ledger.specs.Marks.{has}
-use Rattle.ledger.specs.Places.{Ledger, mark_in}
+use Rattle.ledger.specs.Places.{Notes, mark_in}
 
 -- The mark of a place that was touched in this stretch. By i h: thread i touched it in way h.
 pub record Marked (m : Mark) (By : ℕ → Access → Type 0) : Type 0 where
@@ -31,7 +32,7 @@ pub record Touched (s : State) (a i : ℕ) (h : Access) : Type 0 where
   pub is : slice_get s.threads i ≡ Some t
   pub by : In (record { at = a; how = h }) t.touched
 
-abbrev pub Tells : Ledger → State → Type 0
+abbrev pub Tells : Notes → State → Type 0
 Tells l s = (a : ℕ) → Told l.stamp (mark_in l.words a) (Touched s a)
 
 -- From s to s', what was touched grows by these touches of thread i, and nothing else.
@@ -45,6 +46,6 @@ abbrev pub FirstLeast : ℕ → Mark → (ℕ → Access → Type 0) → Type 0
 FirstLeast now m By = m.stamp ≡ now → (i : ℕ) (h : Access) → By i h → m.first.0 ≤ i
 
 -- Where threads go one after the other, and thread i is the next: nobody behind it has touched anything.
-pub record InOrder (l : Ledger) (s : State) (i : ℕ) : Type 0 where
+pub record InOrder (l : Notes) (s : State) (i : ℕ) : Type 0 where
   pub first_least : (a : ℕ) → FirstLeast l.stamp (mark_in l.words a) (Touched s a)
   pub none_behind : (a j : ℕ) (h : Access) → Touched s a j h → j ≤ i

@@ -1,60 +1,64 @@
 // The mark of a place: who touched it first in a stretch, in which ways, and whether others did too.
-ghost use Rattle.std.specs.Prelude.{◌≡◌, ◌^◌, ◌<◌, true, false, IfSome, ◌≢◌};
-ghost use Rattle.ledger.specs.Ways.{way};
-ghost use Rattle.ledger.specs.Marks.{tag, untag, has, flagged, admits, fresh, shared_mark, again, noted};
+ghost use Rattle.std.specs.Prelude.{◌≡◌, true, false, IfSome, ◌≢◌};
+ghost use Rattle.ledger.specs.Marks.{IsPacked, untag, flagged, admits, fresh, again, noted};
 
-use crate::access::Access;
-use model::ThreadId;
+use crate::access::goes_with;
+use crate::stamp::Stamp;
+use model::{Access, Change, ThreadId};
 
-// `stamp` is the number of the stretch that the mark is of.
-#[derive(Clone, Copy)]
+// `stamp` is that of the stretch that the mark is of. It stands last, since beside `first` the compiler copies both as
+// one word, which takes two instructions more for each touch. The flags are four bools and not a set of bits, since each
+// is asked and set under its own name, by contracts too.
+#[derive(Clone, Copy, Debug, PartialEq, Eq)]
 pub struct Mark {
     pub first: ThreadId,
-    pub stamp: u32,
     pub read: bool,
     pub written: bool,
     pub added: bool,
     pub shared: bool,
+    pub stamp: Stamp,
 }
 
-impl Mark {
-    // The mark as two words: the first thread, and the stamp with the flags below it.
-    pub fn pack(self) -> (u32, u32)
-        requires { self.stamp < 2 ^ 28 }
-        ensures words { result ≡ (self.first.0, tag self) }
-        ensures back { untag result.0 result.1 ≡ self }
-    {
-        let flags = self.read as u32
-            + 2 * self.written as u32
-            + 4 * self.added as u32
-            + 8 * self.shared as u32;
-        (self.first.0, 16 * self.stamp + flags)
-    }
+// The mark as two words: the first thread, and the stamp with the flags below it.
+impl From<Mark> for (u32, u32) {
+    ghost from_gives = { λ mark words. IsPacked mark words };
 
-    pub fn unpack(first: u32, tag: u32) -> Mark
-        ensures { result ≡ untag first tag }
-    {
+    fn from(mark: Mark) -> (u32, u32) {
+        let flags = mark.read as u32
+            + 2 * mark.written as u32
+            + 4 * mark.added as u32
+            + 8 * mark.shared as u32;
+        (mark.first.0, 16 * mark.stamp.count + flags)
+    }
+}
+
+impl From<(u32, u32)> for Mark {
+    ghost from_gives = { λ words mark. mark ≡ untag words.0 words.1 };
+
+    fn from((first, tag): (u32, u32)) -> Mark {
         Mark {
             first: ThreadId(first),
-            stamp: tag / 16,
+            stamp: Stamp { count: tag / 16 },
             read: tag % 2 == 1,
             written: tag / 2 % 2 == 1,
             added: tag / 4 % 2 == 1,
             shared: tag / 8 % 2 == 1,
         }
     }
+}
 
+impl Mark {
     // With one more way in which the first thread touched the place.
-    fn flagged(self, how: Access) -> Mark
-        ensures { result ≡ flagged self (way how) }
+    fn flagged(self, access: Access) -> Mark
+        ensures { result ≡ flagged self access }
     {
-        match how {
-            Access::Read => Mark { read: true, ..self },
-            Access::Write => Mark {
+        match access {
+            Access::Reading => Mark { read: true, ..self },
+            Access::Changing(Change::Write) => Mark {
                 written: true,
                 ..self
             },
-            Access::Add => Mark {
+            Access::Changing(Change::Add) => Mark {
                 added: true,
                 ..self
             },
@@ -62,8 +66,8 @@ impl Mark {
     }
 
     // The mark of a place that nobody has touched in the stretch before.
-    pub fn fresh(now: u32, thread: ThreadId, how: Access) -> Mark
-        ensures value { result ≡ fresh now thread.0 (way how) }
+    pub fn fresh(now: Stamp, thread: ThreadId, access: Access) -> Mark
+        ensures value { result ≡ fresh now thread.0 access }
         ensures stamp { result.stamp ≡ now }
     {
         let blank = Mark {
@@ -74,52 +78,53 @@ impl Mark {
             added: false,
             shared: false,
         };
-        blank.flagged(how)
+        blank.flagged(access)
     }
 
     // Whether a touch goes with all that the mark tells.
-    fn admits(self, how: Access) -> bool
-        ensures { result ≡ admits self (way how) }
+    fn admits(&self, access: Access) -> bool
+        ensures { result ≡ admits self.now access }
     {
-        (!self.read || Access::Read.goes_with(how))
-            && (!self.written || Access::Write.goes_with(how))
-            && (!self.added || Access::Add.goes_with(how))
+        (!self.read || goes_with(Access::Reading, access))
+            && (!self.written || goes_with(Access::Changing(Change::Write), access))
+            && (!self.added || goes_with(Access::Changing(Change::Add), access))
     }
 
     // Whether the mark is of another stretch, so that it tells nothing of this one.
-    pub fn is_old(self, now: u32) -> bool
-        ensures old { result ≡ true → self.stamp ≢ now }
-        ensures current { result ≡ false → self.stamp ≡ now }
+    pub fn is_old(&self, now: Stamp) -> bool
+        ensures old { result ≡ true → self.now.stamp ≢ now }
+        ensures current { result ≡ false → self.now.stamp ≡ now }
     {
-        now != self.stamp
+        self.stamp != now
     }
 
     // The mark of this stretch after one more touch, or nothing where that clashes with a touch by another thread.
-    pub fn again(self, thread: ThreadId, how: Access) -> Option<Mark>
-        ensures value { result ≡ again self thread.0 (way how) }
-        ensures stamp { IfSome result (λ m. m.stamp ≡ self.stamp) }
+    pub fn again(&self, thread: ThreadId, access: Access) -> Option<Mark>
+        ensures value { result ≡ again self.now thread.0 access }
+        ensures stamp { IfSome result (λ m. m.stamp ≡ self.now.stamp) }
     {
-        if !self.shared && self.first.0 == thread.0 {
-            Some(self.flagged(how))
-        } else if self.admits(how) {
+        if !self.shared && self.first == thread {
+            Some(self.flagged(access))
+        } else if self.admits(access) {
             Some(Mark {
                 shared: true,
-                ..self
+                ..*self
             })
         } else {
             None
         }
     }
 
-    // The mark after one more touch, or nothing where that clashes with a touch by another thread.
-    pub fn noted(self, now: u32, thread: ThreadId, how: Access) -> Option<Mark>
-        ensures value { result ≡ noted self now thread.0 (way how) }
+    // The mark after one more touch, or nothing where that clashes with a touch by another thread. `Ledger::note` takes its two
+    // cases by themselves, for speed; it stays as what both come to.
+    pub fn noted(&self, now: Stamp, thread: ThreadId, access: Access) -> Option<Mark>
+        ensures value { result ≡ noted self.now now thread.0 access }
         ensures stamp { IfSome result (λ m. m.stamp ≡ now) }
     {
-        if self.stamp != now {
-            Some(Mark::fresh(now, thread, how))
+        if self.is_old(now) {
+            Some(Mark::fresh(now, thread, access))
         } else {
-            self.again(thread, how)
+            self.again(thread, access)
         }
     }
 }

@@ -1,94 +1,96 @@
 // What is told of touches in small orders.
-use crate::access::Access;
-use crate::places::{LAST, Noted, next_stretch, note, open};
-use crate::stamp::Stamp;
-use model::{Place, ThreadId};
-use std::test::Fail;
+ghost use Rattle.ledger.specs.Lent.{SameMarks};
+
+use crate::places::{Earlier, Ledger};
+use crate::stamp::{LAST, Stamp};
+use model::{Access, Change, Place, ThreadId};
+
+const READ: Access = Access::Reading;
+
+const WRITE: Access = Access::Changing(Change::Write);
+
+const ADD: Access = Access::Changing(Change::Add);
 
 // Whether a thread may touch a place.
-fn fine(marks: &mut [u32], stamp: Stamp, thread: u32, place: usize, how: Access) -> bool {
-    if place >= marks.len() / 2 {
-        return false;
-    }
-    match note(marks, stamp, ThreadId(thread), Place(place), how) {
-        Noted::Fine => true,
-        Noted::Clash(_) => false,
-    }
+fn fine(ledger: &mut Ledger, thread: u32, place: usize, access: Access) -> bool
+    ensures { SameMarks ledger.old ledger.new }
+{
+    place < ledger.marks.len() / 2 && ledger.note(ThreadId(thread), Place(place), access).is_ok()
 }
 
 // Whether threads 5 and 3 may touch a place one after the other.
 fn pair(first: Access, second: Access) -> bool {
     let mut marks = [7; 2];
-    let stamp = open(&mut marks);
-    fine(&mut marks, stamp, 5, 0, first) && fine(&mut marks, stamp, 3, 0, second)
+    let mut ledger = Ledger::open(&mut marks);
+    fine(&mut ledger, 5, 0, first) && fine(&mut ledger, 3, 0, second)
 }
 
 #[test]
 fn alike_go_together(rt: HostRuntime) {
-    assert!(rt; pair(Access::Read, Access::Read));
-    assert!(rt; pair(Access::Add, Access::Add));
-    assert!(rt; !pair(Access::Write, Access::Write));
+    assert!(rt; pair(READ, READ));
+    assert!(rt; pair(ADD, ADD));
+    assert!(rt; !pair(WRITE, WRITE));
 }
 
 #[test]
 fn others_clash(rt: HostRuntime) {
-    assert!(rt; !pair(Access::Read, Access::Write));
-    assert!(rt; !pair(Access::Read, Access::Add));
-    assert!(rt; !pair(Access::Write, Access::Read));
-    assert!(rt; !pair(Access::Write, Access::Add));
-    assert!(rt; !pair(Access::Add, Access::Read));
-    assert!(rt; !pair(Access::Add, Access::Write));
+    assert!(rt; !pair(READ, WRITE));
+    assert!(rt; !pair(READ, ADD));
+    assert!(rt; !pair(WRITE, READ));
+    assert!(rt; !pair(WRITE, ADD));
+    assert!(rt; !pair(ADD, READ));
+    assert!(rt; !pair(ADD, WRITE));
 }
 
 #[test]
 fn shared_reads_then_a_write(rt: HostRuntime) {
     let mut marks = [0; 4];
-    let stamp = open(&mut marks);
-    assert!(rt; fine(&mut marks, stamp, 0, 1, Access::Read));
-    assert!(rt; fine(&mut marks, stamp, 1, 1, Access::Read));
-    assert!(rt; fine(&mut marks, stamp, 0, 0, Access::Write));
-    assert!(rt; !fine(&mut marks, stamp, 0, 1, Access::Write));
-    assert!(rt; !fine(&mut marks, stamp, 2, 1, Access::Add));
+    let mut ledger = Ledger::open(&mut marks);
+    assert!(rt; fine(&mut ledger, 0, 1, READ));
+    assert!(rt; fine(&mut ledger, 1, 1, READ));
+    assert!(rt; fine(&mut ledger, 0, 0, WRITE));
+    assert!(rt; !fine(&mut ledger, 0, 1, WRITE));
+    assert!(rt; !fine(&mut ledger, 2, 1, ADD));
 }
 
 #[test]
-fn one_thread_reads_and_writes(rt: HostRuntime) -> Result<(), Fail> {
+fn one_thread_reads_and_writes(rt: HostRuntime) {
     let mut marks = [0; 2];
-    let stamp = open(&mut marks);
-    assert!(rt; fine(&mut marks, stamp, 4, 0, Access::Read));
-    assert!(rt; fine(&mut marks, stamp, 4, 0, Access::Write));
-    assert!(rt; fine(&mut marks, stamp, 4, 0, Access::Add));
-    match note(&mut marks, stamp, ThreadId(9), Place(0), Access::Read) {
-        Noted::Fine => Err(Fail::new("no clash")),
-        Noted::Clash(first) => {
-            assert_eq!(rt; first.0, 4);
-            Ok(())
-        },
-    }
+    let mut ledger = Ledger::open(&mut marks);
+    assert!(rt; fine(&mut ledger, 4, 0, READ));
+    assert!(rt; fine(&mut ledger, 4, 0, WRITE));
+    assert!(rt; fine(&mut ledger, 4, 0, ADD));
+    assert_eq!(rt;
+        ledger.note(ThreadId(9), Place(0), READ),
+        Err(Earlier(ThreadId(4)))
+    );
 }
 
 #[test]
 fn nothing_is_kept_over_a_wait(rt: HostRuntime) {
     let mut marks = [0; 2];
-    let before = open(&mut marks);
-    assert!(rt; fine(&mut marks, before, 0, 0, Access::Write));
-    let after = next_stretch(&mut marks, before);
-    assert!(rt; fine(&mut marks, after, 1, 0, Access::Write));
-    assert!(rt; !fine(&mut marks, after, 0, 0, Access::Read));
+    let mut ledger = Ledger::open(&mut marks);
+    assert!(rt; fine(&mut ledger, 0, 0, WRITE));
+    ledger.next_stretch();
+    assert!(rt; fine(&mut ledger, 1, 0, WRITE));
+    assert!(rt; !fine(&mut ledger, 0, 0, READ));
 }
 
 #[test]
 fn stamps_run_out(rt: HostRuntime) {
     let mut marks = [0; 2];
-    let before = Stamp { count: LAST - 1 };
-    assert!(rt; fine(&mut marks, before, 0, 0, Access::Write));
-    let last = next_stretch(&mut marks, before);
-    assert_eq!(rt; last.count, LAST);
-    assert!(rt; fine(&mut marks, last, 1, 0, Access::Write));
-    assert!(rt; !fine(&mut marks, last, 0, 0, Access::Read));
-    let again = next_stretch(&mut marks, last);
-    assert_eq!(rt; again.count, 1);
-    assert_eq!(rt; marks[1], 0);
-    assert!(rt; fine(&mut marks, again, 2, 0, Access::Write));
-    assert!(rt; !fine(&mut marks, again, 3, 0, Access::Write));
+    let mut ledger = Ledger {
+        marks: &mut marks,
+        stamp: Stamp { count: LAST - 1 },
+    };
+    assert!(rt; fine(&mut ledger, 0, 0, WRITE));
+    ledger.next_stretch();
+    assert_eq!(rt; ledger.stretch(), LAST);
+    assert!(rt; fine(&mut ledger, 1, 0, WRITE));
+    assert!(rt; !fine(&mut ledger, 0, 0, READ));
+    ledger.next_stretch();
+    assert_eq!(rt; ledger.stretch(), 1);
+    assert_eq!(rt; ledger.marks[1], 0);
+    assert!(rt; fine(&mut ledger, 2, 0, WRITE));
+    assert!(rt; !fine(&mut ledger, 3, 0, WRITE));
 }

@@ -1,17 +1,18 @@
 -- How a thread begins, in the words and in the text.
-use Rattle.std.proofs.Common.{◌≡◌, ℕ, zero, suc, ◌+◌, ◌*◌, ◌<◌, ◌≤◌, List, [], ◌∷◌, length, set, replicate, Some, sym, refl, ap, ◌∙◌, subst, arith, below_more}
+use Rattle.std.proofs.Common.{◌≡◌, ℕ, ◌+◌, ◌*◌, ◌<◌, ◌≤◌, List, [], ◌∷◌, length, set, replicate, sym, refl, ap, ◌∙◌, subst, arith, below_more}
 use borrow.Rule.Slice.PartMut.{put_mid}
-use Rattle.std.specs.List.{slice_get}
-use Rattle.std.proofs.lemmas.List.{length-replicate, length-set, take-replicate}
+use Rattle.std.proofs.lemmas.List.{length-replicate, length-set, take-replicate, get_or-replicate}
+use Rattle.std.proofs.lemmas.Option.{get_or_from_slice_get}
+use Rattle.model.specs.declared.Status.TheVariants.{Going as going}
 use Rattle.model.specs.Kernel.{Kernel}
-use Rattle.model.specs.Steps.{going}
 use Rattle.rows.specs.Decoded.{Decoded}
 use Rattle.rows.specs.declared.decoder.Text.{Text}
+use Rattle.std.proofs.lemmas.Option.{slice_get_within}
 use Rattle.machine.specs.Stands.{Source}
 use Rattle.machine.specs.Words.{Held, Holds, pushed, part}
 use Rattle.machine.specs.Begins.{TextStands, Begun, fresh, AllBegun}
 use Rattle.machine.proofs.Held.{set_left, pushes}
-use Rattle.machine.proofs.Parts.{nth_within, part_put_same, part_put_other}
+use Rattle.machine.proofs.Parts.{part_put_same, part_put_other}
 use Rattle.machine.proofs.Texts.{decoded_stands}
 
 -- words that are all 0 hold a thread with nothing to do
@@ -41,18 +42,13 @@ begun_more work ys j size turns size_is room before new =
     (λ k l. subst (λ w. Begun w turns) (sym (part_put_other j size work ys size_is room new.size k (λ e. omega arith))) (before k l))
     (subst (λ w. Begun w turns) (sym (part_put_same j size work ys size_is room new.size)) new)
 
-nth_replicate : {A : Type 0} (n j : ℕ) (x y : A) → slice_get (replicate n x) j ≡ Some y → x ≡ y
-nth_replicate zero j x y is = let z : ◌≡◌ {A = ℕ} 0 1 = cc in absurd (omega arith)
-nth_replicate (suc n) zero x y is = cc
-nth_replicate (suc n) (suc j) x y is = nth_replicate n j x y is
-
 pub all_begun : (work : List ℕ) (j n turns : ℕ) → n ≤ j → 1024 * n ≤ length work → ((k : ℕ) → k < j → Begun (part k work) turns) → AllBegun work n turns
 all_begun work j n turns l room each = record {
   each = λ s body text. record {
     room = omega (arith, length-replicate n (fresh s body turns));
     each = λ k t is.
-        let within : k < j = omega (arith, nth_within (replicate n (fresh s body turns)) k t is, length-replicate n (fresh s body turns)) in
-        subst (Holds s (part k work)) (nth_replicate n k (fresh s body turns) t is) ((each k within).each s body text);
+        let within : k < n = omega (arith, slice_get_within (replicate n (fresh s body turns)) k t is, length-replicate n (fresh s body turns)) in
+        subst (Holds s (part k work)) (sym (get_or-replicate n k (fresh s body turns) t within) ∙ get_or_from_slice_get (replicate n (fresh s body turns)) k t t is) ((each k (omega arith)).each s body text);
   };
 }
 

@@ -1,8 +1,9 @@
 -- What stands at a position has a whole head there, and that head says which statement or expression it is.
 use Rattle.std.proofs.Common.{◌≡◌, ℕ, ◌+◌, get_or, refl, ap, ◌∙◌, ap₂, arith}
+use Rattle.model.specs.declared.Change.TheVariants.{Write as write, Add as add}
 use Rattle.model.specs.declared.Op.{Op}
 use Rattle.model.specs.declared.Op.TheVariants.{Add, Sub, Mul, Div, Rem, Less, Same}
-use Rattle.model.specs.Kernel.{Expr, num, var, me, all, op, write, add, Stmt, skip, seq, assign, read, update, if, while, wait}
+use Rattle.model.specs.Kernel.{Expr, num, var, me, all, op, Stmt, skip, seq, assign, read, update, if, while, wait}
 use Rattle.model.specs.Rows.{op_code}
 use Rattle.rows.specs.declared.head.Expression.{Expression}
 use Rattle.rows.specs.declared.head.Expression.TheVariants.{Number, Variable, Me, All, Operation}

@@ -4,6 +4,7 @@ pub mod Texts
 pub mod Values
 pub mod Held
 pub mod Rules
+pub mod StatusWords
 pub mod Parts
 pub mod Begin
 pub mod Loads

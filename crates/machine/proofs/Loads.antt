@@ -1,12 +1,14 @@
 -- Every step lowers the load of the words.
-use Rattle.std.proofs.Common.{◌≡◌, ℕ, zero, suc, ◌+◌, ◌-◌, ◌*◌, ◌<◌, ◌≤◌, Bool, true, false, cond, eqb, List, [], ◌∷◌, ◌++◌, length, get_or, set, refl, ap, ◌∙◌, ap₂, ⊎_elim, arith, length-append}
+use Rattle.std.proofs.Common.{◌≡◌, ℕ, zero, suc, ◌+◌, ◌-◌, ◌*◌, ◌<◌, ◌≤◌, Bool, true, false, cond, eqb, List, [], ◌∷◌, ◌++◌, length, get_or, set, refl, ap, ◌∙◌, ap₂, ⊎_elim, arith, length-append, Option}
 use borrow.Rule.Slice.PartMut.{put_mid}
 use Rattle.std.proofs.lemmas.List.{get_or-set_same, get_or-set_other}
 use Rattle.std.proofs.lemmas.Bool.{cases_eq, ne_eqb}
+use Rattle.model.specs.declared.Status.{Status}
+use Rattle.model.specs.declared.Status.TheVariants.{Going as going}
 use Rattle.model.specs.Kernel.{bit, Expr, Stmt, skip, seq, assign, read, update, if, while, wait, value}
 use Rattle.model.specs.Rows.{expr_row, stmt_row}
-use Rattle.model.specs.Steps.{Status, going, Thread, goes, turn, next_effect, thread_after}
-use Rattle.machine.specs.declared.touched.Touched.{Touched}
+use Rattle.model.specs.Steps.{Thread, goes, turn, next_effect, thread_after}
+use Rattle.machine.specs.declared.touched.Touch.{Touch}
 use Rattle.machine.specs.Stands.{Source, Spans, Stands, end}
 use Rattle.machine.specs.Words.{status_code, Stack, Held, part}
 use Rattle.machine.specs.Together.{released_word}
@@ -74,7 +76,7 @@ held_short : {s : Source} {w vars : List ℕ} {left : ℕ} {status : Status} (to
 held_short [] h = tt
 held_short {s} {w} (a ∷ rest) h = omega (arith, (spanned s (get_or w (512 + length rest) 0) a h.stack.0).1, h.short)
 
-pub load_falls : {s : Source} {i n : ℕ} {w w' m m' : List ℕ} {r : Touched} → CanStep s w → Stepped s i n w w' m m' r → load s w' < load s w
+pub load_falls : {s : Source} {i n : ℕ} {w w' m m' : List ℕ} {r : Option Touch} → CanStep s w → Stepped s i n w w' m m' r → load s w' < load s w
 load_falls {s} {i} {n} {w} {w'} {m} can step =
     let t = can.thread in
     omega (arith, weighs can.holds, weighs (step.each t can.holds can.goes).holds, step_lighter i n (length m) t t.todo m (held_short t.todo can.holds), ap (λ st. status_load (status_code st)) can.goes)

@@ -1,25 +1,28 @@
 -- A step of one thread's words, among the words of all, is a step of the whole state.
-use Rattle.std.proofs.Common.{◌≡◌, ℕ, ◌+◌, ◌*◌, ◌<◌, ◌≤◌, List, length, get_or, set, Some, sym, ap, ◌∙◌, subst, subst₂, ⊎_elim, arith}
+use Rattle.std.proofs.Common.{◌≡◌, ℕ, ◌+◌, ◌*◌, ◌<◌, ◌≤◌, List, length, set, Some, sym, ap, ◌∙◌, subst, subst₂, ⊎_elim, arith, Option}
 use borrow.Rule.Slice.PartMut.{put_mid}
 use Rattle.std.specs.List.{slice_get}
 use Rattle.std.proofs.lemmas.List.{length-set}
 use Rattle.std.proofs.lemmas.Bool.{cases_eq}
-use Rattle.model.specs.Steps.{Status as Model, going, waiting, ended, out_of_turns, Thread}
+use Rattle.model.specs.declared.Status.{Status}
+use Rattle.model.specs.Steps.{Thread}
 use Rattle.model.proofs.Threads.{nth_set_same, nth_set_other}
-use Rattle.machine.specs.declared.touched.Touched.{Touched}
+use Rattle.std.proofs.lemmas.Option.{slice_get_within}
+use Rattle.machine.specs.declared.touched.Touch.{Touch}
 use Rattle.machine.specs.Stands.{Source}
-use Rattle.machine.specs.declared.thread.Status.{Status}
-use Rattle.machine.specs.Words.{status_of, status_as, status_code, Holds, part}
+use Rattle.machine.specs.Words.{status_of, Holds, part}
 use Rattle.machine.specs.All.{StatusOf, AllHeld}
 use Rattle.machine.specs.Stepped.{CanStep, Stepped, CanStepOf, SteppedOf}
 use Rattle.machine.specs.Loads.{load}
+use Rattle.machine.specs.Together.{status_at}
 use Rattle.machine.proofs.Loads.{load_falls, loads_fall}
-use Rattle.machine.proofs.Parts.{nth_within, part_put_same, part_put_other, length_put}
+use Rattle.machine.proofs.StatusWords.{named_is}
+use Rattle.machine.proofs.Parts.{status_part, part_put_same, part_put_other, length_put}
 
 -- other words for thread i, which then is u
 put_held : (s : Source) (work ys : List ℕ) (ts : List Thread) (i size : ℕ) (t u : Thread) → size ≡ 1024 → AllHeld s work ts → slice_get ts i ≡ Some t → Holds s ys u → AllHeld s (put_mid (1024 * i) size work ys) (set ts i u)
 put_held s work ys ts i size t u size_is h is new =
-    let room : 1024 * i + 1024 ≤ length work = omega (arith, h.room, nth_within ts i t is) in
+    let room : 1024 * i + 1024 ≤ length work = omega (arith, h.room, slice_get_within ts i t is) in
     record {
       room = omega (arith, h.room, length-set ts i u, length_put i size work ys size_is room new.size);
       each = λ j v found.
@@ -33,12 +36,12 @@ put_held s work ys ts i size t u size_is h is new =
 
 module _ {s : Source} {work m : List ℕ} {i n : ℕ} where
   pub room_of : CanStepOf s work m i n → 1024 * i + 1024 ≤ length work
-  room_of c = omega (arith, c.held.all.room, nth_within c.state.threads i c.thread c.is)
+  room_of c = omega (arith, c.held.all.room, slice_get_within c.state.threads i c.thread c.is)
 
   pub can_step : {w : List ℕ} → w ≡ part i work → CanStepOf s work m i n → CanStep s w
   can_step same c = record { thread = c.thread; holds = subst (λ w. Holds s w c.thread) (sym same) (c.held.all.each i c.thread c.is); goes = c.goes }
 
-  pub stepped_of : {w w' m' : List ℕ} {r : Touched} (size : ℕ) → size ≡ 1024 → w ≡ part i work → CanStepOf s work m i n → Stepped s i n w w' m m' r → SteppedOf s i n work (put_mid (1024 * i) size work w') m m' r
+  pub stepped_of : {w w' m' : List ℕ} {r : Option Touch} (size : ℕ) → size ≡ 1024 → w ≡ part i work → CanStepOf s work m i n → Stepped s i n w w' m m' r → SteppedOf s i n work (put_mid (1024 * i) size work w') m m' r
   stepped_of {w} {w'} {m'} {r} size size_is same can step = record {
     each = λ st t held is g.
         let here : Stepped s i (length st.threads) (part i work) w' st.memory m' r = subst (λ n. Stepped s i n (part i work) w' st.memory m' r) (sym held.count) (subst₂ (λ w m. Stepped s i n w w' m m' r) same held.memory_is step) in
@@ -54,15 +57,9 @@ module _ {s : Source} {work m : List ℕ} {i n : ℕ} where
     lighter =
         let here = can_step same can in
         let size' = (step.each here.thread here.holds here.goes).holds.size in
-        loads_fall s i size work w' size_is (room_of can) size' n (omega (arith, can.held.count, nth_within can.state.threads i can.thread can.is)) (subst (λ w. load s w' < load s w) same (load_falls here step));
+        loads_fall s i size work w' size_is (room_of can) size' n (omega (arith, can.held.count, slice_get_within can.state.threads i can.thread can.is)) (subst (λ w. load s w' < load s w) same (load_falls here step));
   }
 
 -- the status that the code reads in a thread's words
-status_read : (st : Model) (x : ℕ) (r : Status) → status_code st ≡ x → r ≡ status_of x → st ≡ status_as r
-status_read going x r is read = ap (λ x. status_as (status_of x)) is ∙ ap status_as (sym read)
-status_read waiting x r is read = ap (λ x. status_as (status_of x)) is ∙ ap status_as (sym read)
-status_read ended x r is read = ap (λ x. status_as (status_of x)) is ∙ ap status_as (sym read)
-status_read out_of_turns x r is read = ap (λ x. status_as (status_of x)) is ∙ ap status_as (sym read)
-
-pub status_is_of : {work w : List ℕ} {j : ℕ} {r : Status} → w ≡ part j work → r ≡ status_of (get_or w 257 0) → StatusOf work j r
-status_is_of {work} {w} {j} {r} same read = record { is = λ s ts t h is. status_read t.status _ r (h.each j t is).status_is (read ∙ ap (λ w. status_of (get_or w 257 0)) same) }
+pub status_is_of : {work : List ℕ} {j : ℕ} {r : Status} → r ≡ status_of (status_at work j) → StatusOf work j r
+status_is_of {work} {j} {r} read = record { is = λ s ts t h is. named_is t.status ∙ ap status_of ((h.each j t is).status_is ∙ status_part j work) ∙ sym read }

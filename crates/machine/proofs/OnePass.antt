@@ -1,11 +1,12 @@
 -- All that wait go on in one pass: from the status words to the threads.
 use Rattle.std.proofs.Common.{◌≡◌, ℕ, zero, suc, ◌+◌, ◌*◌, ◌<◌, ◌≤◌, Bool, true, false, List, length, set, sym, refl, ap, ◌∙◌, subst, add-one, arith, below_more}
 use Rattle.model.specs.Steps.{Thread, all_released}
+use Rattle.std.proofs.lemmas.Option.{slice_get_within}
 use Rattle.machine.specs.Stands.{Source}
 use Rattle.machine.specs.Loads.{loads}
 use Rattle.machine.specs.All.{AllHeld}
 use Rattle.machine.specs.Together.{status_at, released_words, ResumedAs, Resumed}
-use Rattle.machine.proofs.Parts.{nth_within, nth_some}
+use Rattle.machine.proofs.Parts.{nth_some}
 use Rattle.machine.proofs.Together.{released_waits, released_stays, status_other, released_lighter, code_waiting, code_not_waiting, some_waits, none_waits, code_at, all_go_on}
 
 -- the words of threads of which none waits
@@ -48,7 +49,7 @@ module _ {s : Source} {work : List ℕ} {ts : List Thread} (h : AllHeld s work t
       let t = nth_some ts j l in
       (some_waits ts j t.0 t.1 (code_waiting t.0.status (code_at h j t.0 t.1 ∙ one)), subst (λ w. AllHeld s w (all_released ts)) (sym is) (all_go_on h))
   resumed_as false none is =
-      (none_waits ts (λ j t at. code_not_waiting t.status (λ one. none j (nth_within ts j t at) (sym (code_at h j t at) ∙ one))), is ∙ sym (unreleased (length ts) work none))
+      (none_waits ts (λ j t at. code_not_waiting t.status (λ one. none j (slice_get_within ts j t at) (sym (code_at h j t at) ∙ one))), is ∙ sym (unreleased (length ts) work none))
 
 pub all_resumed : {work work' : List ℕ} {j n : ℕ} {r : Bool} → j ≡ n → 1024 * n ≤ length work → Resuming work work' j r → Resumed work work' n r
 all_resumed {work} {work'} {j} {n} {r} all room done = record {

@@ -1,25 +1,23 @@
 -- The words of each thread among those of all: what is written to one thread's words leaves the others.
-use Rattle.std.proofs.Common.{◌≡◌, ℕ, zero, suc, ◌+◌, ◌-◌, ◌*◌, ◌<◌, ◌≤◌, List, [], ◌∷◌, length, take, drop, set, Some, sym, refl, ap, ◌∙◌, ⊎_elim, arith, length-append, length-drop, length-take}
+use Rattle.std.proofs.Common.{◌≡◌, ℕ, zero, suc, ◌+◌, ◌-◌, ◌*◌, ◌/◌, ◌<◌, ◌≤◌, List, [], ◌∷◌, length, get_or, take, drop, set, Some, sym, refl, ap, ◌∙◌, ⊎_elim, arith, length-append, length-drop, length-take}
 use borrow.Rule.Slice.PartMut.{put_mid}
 use Rattle.std.specs.List.{slice_get}
-use Rattle.std.proofs.lemmas.List.{drop-set-lt, drop-set-add, drop-take, take-set-le}
+use Rattle.std.specs.Simd.{first_chunks}
+use Rattle.std.proofs.lemmas.List.{drop-drop, drop-set-lt, drop-set-add, drop-take, take-set-le, get_or-take, get_or-drop}
 use Rattle.std.proofs.lemmas.Slice.{take-put_mid_below, drop-put_mid, between-put_mid}
 use Rattle.std.proofs.lemmas.Bool.{cases_lt}
 use Rattle.machine.specs.Words.{part}
-use Rattle.machine.proofs.Held.{set_take}
+use Rattle.machine.specs.Together.{status_at}
+use Rattle.std.proofs.Math.Seq.{take-set-lt}
 
-pub nth_within : {A : Type 0} (xs : List A) (j : ℕ) (x : A) → slice_get xs j ≡ Some x → j < length xs
-nth_within [] j x is = let z : ◌≡◌ {A = ℕ} 0 1 = cc in absurd (omega arith)
-nth_within (y ∷ xs) zero x is = omega arith
-nth_within (y ∷ xs) (suc j) x is = omega (arith, nth_within xs j x is)
-
+-- the library's lemma, by the name that the crate above cites
 pub nth_some : {A : Type 0} (xs : List A) (j : ℕ) → j < length xs → (x : A) × (slice_get xs j ≡ Some x)
 nth_some [] j l = absurd (omega arith)
 nth_some (y ∷ xs) zero l = (y, refl)
 nth_some (y ∷ xs) (suc j) l = nth_some xs j (omega arith)
 
-pub part_set_same : (j i v : ℕ) (work : List ℕ) → part j (set work (1024 * j + i) v) ≡ set (part j work) i v
-part_set_same j i v work = ap (take 1024) (drop-set-add (1024 * j) work i v) ∙ sym (set_take (drop (1024 * j) work) 1024 i v)
+pub part_set_same : (j i v : ℕ) (work : List ℕ) → i < 1024 → part j (set work (1024 * j + i) v) ≡ set (part j work) i v
+part_set_same j i v work small = ap (take 1024) (drop-set-add (1024 * j) work i v) ∙ take-set-lt 1024 (drop (1024 * j) work) i v small
 
 pub part_set_other : (k j i v : ℕ) (work : List ℕ) → i < 1024 → (j ≡ k → ⊥) → part j (set work (1024 * k + i) v) ≡ part j work
 part_set_other k j i v work small apart =
@@ -29,6 +27,19 @@ part_set_other k j i v work small apart =
     ap (λ at. part j (set work at v)) (omega arith) ∙ ap (take 1024) (drop-set-add (1024 * j) work n v) ∙ take-set-le 1024 (drop (1024 * j) work) n v (omega arith))
     (λ above. ap (take 1024) (drop-set-lt (1024 * j) work (1024 * k + i) v (omega arith)))
     (cases_lt j k)
+
+-- a slice that is cut into pieces of that many words has them
+pub chunk_at : (k j : ℕ) (work : List ℕ) → j < k → get_or (first_chunks 1024 k work) j [] ≡ part j work
+chunk_at zero j work l = absurd (omega arith)
+chunk_at (suc k) zero work l = refl
+chunk_at (suc k) (suc j) work l = chunk_at k j (drop 1024 work) (omega arith) ∙ ap (take 1024) (drop-drop (1024 * j) 1024 work ∙ ap (λ i. drop i work) (omega arith))
+
+-- the status word of a thread is that of its words
+pub status_part : (j : ℕ) (work : List ℕ) → get_or (part j work) 257 0 ≡ status_at work j
+status_part j work = get_or-take 1024 (drop (1024 * j) work) 257 0 (omega arith) ∙ get_or-drop (1024 * j) work 257 0
+
+pub chunk_status : (work : List ℕ) {chunks : List (List ℕ)} (n j : ℕ) → chunks ≡ first_chunks 1024 (length work / 1024) work → j < n → n ≤ length work / 1024 → get_or (get_or (take n chunks) j []) 257 0 ≡ status_at work j
+chunk_status work {chunks} n j is l room = ap (λ c. get_or c 257 0) (get_or-take n chunks j [] l ∙ ap (λ c. get_or c j []) is ∙ chunk_at (length work / 1024) j work (omega arith)) ∙ status_part j work
 
 -- the code's part, from the first word up to the word behind the last
 pub lent_size : (j : ℕ) → 1024 * j + 1024 - 1024 * j ≡ 1024

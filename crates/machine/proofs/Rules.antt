@@ -1,12 +1,15 @@
 -- Each rule on the words is the rule of the definitions, for every thread that the words hold.
-use Rattle.std.proofs.Common.{◌≡◌, ℕ, zero, suc, ◌+◌, ◌-◌, ◌<◌, ◌≤◌, max, Bool, true, false, cond, eqb, List, [], ◌∷◌, ◌++◌, length, get_or, set, sym, refl, ap, ◌∙◌, subst, ap₂, append-nil, arith}
+use Rattle.std.proofs.Common.{◌≡◌, ℕ, zero, suc, ◌+◌, ◌-◌, ◌<◌, ◌≤◌, max, Bool, true, false, cond, eqb, List, [], ◌∷◌, ◌++◌, length, get_or, set, sym, refl, ap, ◌∙◌, subst, ap₂, append-nil, arith, Option, None}
 use Rattle.std.proofs.lemmas.Bool.{eq-eqb, ne_eqb, cond-true, cond-false}
-use Rattle.model.specs.Kernel.{Expr, Change, write, add, changed, Stmt, skip, seq, assign, read, update, if, while, wait, value, place}
+use Rattle.model.specs.declared.Change.{Change}
+use Rattle.model.specs.declared.Change.TheVariants.{Write as write, Add as add}
+use Rattle.model.specs.declared.Access.TheVariants.{Changing as changing, Reading as reading}
+use Rattle.model.specs.declared.Status.TheVariants.{Going as going, Waiting as waiting, Ended as ended, OutOfTurns as out_of_turns}
+use Rattle.model.specs.Kernel.{Expr, changed, Stmt, skip, seq, assign, read, update, if, while, wait, value, place}
 use Rattle.model.specs.Rows.{expr_depth, stmt_depth}
-use Rattle.model.specs.Steps.{Effect, own, Thread, changing, reading, going, waiting, ended, out_of_turns, goes, stops, turn, effect, next_effect}
+use Rattle.model.specs.Steps.{Effect, own, Thread, goes, stops, turn, effect, next_effect}
 use Rattle.rows.specs.declared.head.Statement.{Statement}
-use Rattle.machine.specs.declared.touched.Touched.{Touched}
-use Rattle.machine.specs.declared.touched.Touched.TheVariants.{Nothing}
+use Rattle.machine.specs.declared.touched.Touch.{Touch}
 use Rattle.machine.specs.declared.touched.Who.{Who}
 use Rattle.machine.specs.Stands.{Source, ExprStands, Stands, end, StmtHead, statement_at}
 use Rattle.machine.specs.Words.{Held, Holds, popped, pushed, top_of}
@@ -39,7 +42,7 @@ chosen_deep : (b : Bool) (x y : Stmt) → stmt_depth (cond b x y) ≤ max (stmt_
 chosen_deep true x y = omega arith
 chosen_deep false x y = omega arith
 
-module _ (s : Source) (who : Who) (w w' m m' : List ℕ) (r : Touched) (t : Thread) where
+module _ (s : Source) (who : Who) (w w' m m' : List ℕ) (r : Option Touch) (t : Thread) where
   abbrev Value : Expr → ℕ
   Value e = value who.me.0 who.all t.vars e
 
@@ -47,7 +50,7 @@ module _ (s : Source) (who : Who) (w w' m m' : List ℕ) (r : Touched) (t : Thre
   Does e = Done s w' m m' r t e
 
   -- a step that touches nothing
-  own_done : {w'' : List ℕ} (u : Thread) → u.touched ≡ t.touched → w' ≡ w'' → (m' ≡ m) → (r ≡ Nothing) → Holds s w'' u → Does (own u)
+  own_done : {w'' : List ℕ} (u : Thread) → u.touched ≡ t.touched → w' ≡ w'' → (m' ≡ m) → (r ≡ None) → Holds s w'' u → Does (own u)
   own_done u same words memory nothing h = record {
     holds = subst (λ w. Holds s w u) (sym words) h;
     memory_is = memory;
@@ -157,7 +160,7 @@ module _ {s : Source} {w : List ℕ} (can : CanStep s w) where
         asks = subst (Asks s p) (sym (is ∙ stmt_says s p n.stmt n.stands)) (asked s p n.stmt n.stands n.deep);
       }
 
-module _ {s : Source} {who : Who} {w w' m m' : List ℕ} {r : Touched} where
+module _ {s : Source} {who : Who} {w w' m m' : List ℕ} {r : Option Touch} where
   pub stepped : {p : ℕ} (h : Statement) → h ≡ statement_at s p → p ≡ top_of w → 0 < get_or w 258 0 → Rule s who p w w' m m' r h → Stepped s who.me.0 who.all w w' m m' r
   stepped {p} h is top some rule = record { each = λ t holds g. go t t.todo (subst (Held s w t.todo t.vars t.left) g holds) }
     where
@@ -168,7 +171,7 @@ module _ {s : Source} {who : Who} {w w' m m' : List ℕ} {r : Touched} where
           did s who w w' m m' r t p ss st at held (subst (Rule s who p w w' m m' r) (is ∙ stmt_says s p st at) rule)
 
 -- with nothing left to do
-pub ended_stepped : {s : Source} {w w' m m' : List ℕ} {r : Touched} (who : Who) → get_or w 258 0 ≡ 0 → w' ≡ set w 257 2 → m' ≡ m → r ≡ Nothing → Stepped s who.me.0 who.all w w' m m' r
+pub ended_stepped : {s : Source} {w w' m m' : List ℕ} {r : Option Touch} (who : Who) → get_or w 258 0 ≡ 0 → w' ≡ set w 257 2 → m' ≡ m → r ≡ None → Stepped s who.me.0 who.all w w' m m' r
 ended_stepped {s} {w} {w'} {m} {m'} {r} who none words memory nothing = record { each = λ t holds g. go t t.todo holds }
   where
     go : (t : Thread) (todo : List Stmt) → Held s w todo t.vars t.left t.status → Done s w' m m' r t (next_effect who.me.0 who.all (length m) t todo)

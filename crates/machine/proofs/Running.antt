@@ -1,18 +1,19 @@
 -- Some state is held from the beginning on, and after every step.
-use Rattle.std.proofs.Common.{◌≡◌, ℕ, ◌<◌, Bool, true, false, List, [], ◌∷◌, replicate, Some, sym, refl, ap, ◌∙◌, subst, arith}
+use Rattle.std.proofs.Common.{◌≡◌, ℕ, ◌<◌, Bool, true, false, List, [], ◌∷◌, replicate, Some, sym, refl, ◌∙◌, subst, subst₂, arith, Option}
 use Rattle.std.specs.List.{slice_get}
 use Rattle.std.proofs.lemmas.List.{length-replicate}
+use Rattle.model.specs.declared.Status.{Status}
+use Rattle.model.specs.declared.Status.TheVariants.{Going as going}
 use Rattle.model.specs.Kernel.{Stmt, Kernel}
-use Rattle.model.specs.Steps.{going, Thread, State, all_released, resumed, begin}
-use Rattle.machine.specs.declared.thread.Status.{Status}
-use Rattle.machine.specs.declared.thread.Status.TheVariants.{Going, Waiting, Ended, OutOfTurns}
+use Rattle.model.specs.Steps.{Thread, State, all_released, resumed, begin}
 use Rattle.rows.specs.declared.decoder.Text.{Text}
 use Rattle.rows.specs.Decoded.{Decoded}
 use Rattle.machine.specs.declared.release.Released.{Released}
 use Rattle.machine.specs.declared.release.Released.TheVariants.{Nobody, Waiting as ReleasedAsWaiting, End}
-use Rattle.machine.specs.declared.touched.Touched.{Touched}
-use Rattle.machine.specs.Stands.{Source}
-use Rattle.machine.specs.Words.{status_as}
+use Rattle.machine.specs.declared.touched.Touch.{Touch}
+use Rattle.machine.specs.declared.engine.Engine.{Engine}
+use Rattle.machine.specs.Engines.{Stays}
+use Rattle.machine.specs.Stands.{Source, source}
 use Rattle.machine.specs.All.{StatusOf, AllHeld}
 use Rattle.machine.specs.Begins.{TextStands, fresh, AllBegun}
 use Rattle.machine.specs.Together.{ReleasedAs, Release, ResumedAs, Resumed}
@@ -37,28 +38,26 @@ begin_held {w} {t} {t'} {work} {x} {k} m {n} {turns} variables d same begun =
       count = length-replicate n _;
     }
 
-only_going : (r : Status) → going ≡ status_as r → r ≡ Going
-only_going Going e = refl
-only_going Waiting e = let z : ◌≡◌ {A = ℕ} 0 1 = cc in absurd (omega arith)
-only_going Ended e = let z : ◌≡◌ {A = ℕ} 0 1 = cc in absurd (omega arith)
-only_going OutOfTurns e = let z : ◌≡◌ {A = ℕ} 0 1 = cc in absurd (omega arith)
-
 module _ {s : Source} {work m : List ℕ} {i n : ℕ} {r : Status} (status : StatusOf work i r) where
-  pub is_going : r ≡ Going → (st : State) (t : Thread) → StateHeld s work m n st → slice_get st.threads i ≡ Some t → t.status ≡ going
-  is_going goes st t held is = status.is s st.threads t held.all is ∙ ap status_as goes
+  pub is_going : r ≡ going → (st : State) (t : Thread) → StateHeld s work m n st → slice_get st.threads i ≡ Some t → t.status ≡ going
+  is_going goes st t held is = status.is s st.threads t held.all is ∙ goes
 
-  pub not_going : (r ≡ Going → ⊥) → (st : State) (t : Thread) → StateHeld s work m n st → slice_get st.threads i ≡ Some t → t.status ≡ going → ⊥
-  not_going stops st t held is g = stops (only_going r (sym g ∙ status.is s st.threads t held.all is))
+  pub not_going : (r ≡ going → ⊥) → (st : State) (t : Thread) → StateHeld s work m n st → slice_get st.threads i ≡ Some t → t.status ≡ going → ⊥
+  not_going stops st t held is g = stops (sym (status.is s st.threads t held.all is) ∙ g)
 
-  module _ (goes : r ≡ Going) (run : Running s work m n) (known : i < n) where
+  module _ (goes : r ≡ going) (run : Running s work m n) (known : i < n) where
     one : (t : Thread) × (slice_get run.state.threads i ≡ Some t)
     one = nth_some run.state.threads i (omega (arith, run.held.count))
 
     pub can_step_of : CanStepOf s work m i n
     can_step_of = record { state = run.state; thread = one.0; held = run.held; is = one.1; goes = is_going goes run.state one.0 run.held one.1 }
 
-    pub running_on : {work' m' : List ℕ} {x : Touched} → SteppedOf s i n work work' m m' x → Running s work' m' n
+    pub running_on : {work' m' : List ℕ} {x : Option Touch} → SteppedOf s i n work work' m m' x → Running s work' m' n
     running_on step = record { state = _; held = (step.each run.state one.0 run.held one.1 (is_going goes run.state one.0 run.held one.1)).held }
+
+-- .. which an engine keeps
+pub stays_running : {e e' : Engine} {work m m' : List ℕ} → Stays e e' → m' ≡ m → Running (source e.script.now) work m e.threads → Running (source e'.script.now) work m' e'.threads
+stays_running {e} {e'} {work} {m} stays same run = subst (λ m. Running (source e'.script.now) work m e'.threads) (sym same) (subst₂ (λ s n. Running (source s.now) work m n) (sym stays.script) (sym stays.threads) run)
 
 -- .. and where all that waited have gone on, or nothing has changed
 module _ {s : Source} {work work' m : List ℕ} {n : ℕ} (run : Running s work m n) where

@@ -8,6 +8,7 @@ use Rattle.rows.specs.Decoded.{Decoded}
 use Rattle.rows.specs.declared.decoder.Text.{Text}
 use Rattle.rows.specs.Table.{behind, expr_ends, stmt_ends}
 use Rattle.rows.proofs.Marks.{expr_beside, stmt_beside}
+use Rattle.machine.proofs.Held.{some}
 use Rattle.machine.specs.Stands.{Source, Word, EndsAt, end, Spans, ExprStands, Stands}
 
 -- a list begins with a row at p, and goes on with others behind it
@@ -20,16 +21,6 @@ at_within {l} {row} {p} {x} h = omega (arith, ap length h.is, length-drop p l)
 
 at_fits : {l : List ℕ} (row : List ℕ) (p : ℕ) → 0 < length row → At l p row → p + length row ≤ length l
 at_fits {l} row p some h = omega (arith, ap length h.is, length-append row h.rest, length-drop p l)
-
-row_some : (a : Stmt) → 0 < length (stmt_row a)
-row_some skip = omega arith
-row_some (seq a b) = omega arith
-row_some (assign x e) = omega arith
-row_some (read x e) = omega arith
-row_some (update c e f) = omega arith
-row_some (if e a b) = omega arith
-row_some (while e a) = omega arith
-row_some wait = omega arith
 
 at_word : {l row : List ℕ} {p x : ℕ} → At l p (x ∷ row) → get_or l p 0 ≡ x
 at_word {l} {row} {p} {x} h = ap (λ q. get_or l q 0) (omega arith) ∙ sym (get_or-drop p l 0 0) ∙ ap (λ d. get_or d 0 0) h.is
@@ -96,30 +87,24 @@ module _ (s : Source) where
   abbrev StmtBeside : ℕ → Stmt → Type 0
   StmtBeside p a = Beside p (stmt_row a) (stmt_ends p a)
 
-  -- e stands at p, and another row behind it, at the end that stands beside p
-  record ThenExpr (p : ℕ) (e : Expr) (row ends : List ℕ) : Type 0 where
-    begins : ExprBeside p e
+  -- a row at p, and another one behind it, at the end that stands beside p
+  record Then (p : ℕ) (first first_ends row ends : List ℕ) : Type 0 where
+    begins : Beside p first first_ends
     has_end : EndsAt s p
-    end_is : end s p ≡ behind p (expr_row e)
-    goes_on : Beside (behind p (expr_row e)) row ends
+    end_is : end s p ≡ behind p first
+    goes_on : Beside (behind p first) row ends
 
-  then_expr : (p : ℕ) (e : Expr) (row ends : List ℕ) → Beside p (expr_row e ++ row) (expr_ends p e ++ ends) → ThenExpr p e row ends
-  then_expr p e row ends h =
-      let parts = apart (expr_row e) (expr_ends p e) row ends (expr_beside e p) h in
-      let ends = expr_end e p parts.0.ends_are in
+  then_row : (p : ℕ) (first first_ends row ends : List ℕ) → length first_ends ≡ length first → (At s.ends p first_ends → EndsAt s p × (end s p ≡ behind p first)) → Beside p (first ++ row) (first_ends ++ ends) → Then p first first_ends row ends
+  then_row p first first_ends row ends same end_at h =
+      let parts = apart first first_ends row ends same h in
+      let ends = end_at parts.0.ends_are in
       record { begins = parts.0; has_end = ends.0; end_is = ends.1; goes_on = parts.1 }
 
-  record ThenStmt (p : ℕ) (a : Stmt) (row ends : List ℕ) : Type 0 where
-    begins : StmtBeside p a
-    has_end : EndsAt s p
-    end_is : end s p ≡ behind p (stmt_row a)
-    goes_on : Beside (behind p (stmt_row a)) row ends
+  then_expr : (p : ℕ) (e : Expr) (row ends : List ℕ) → Beside p (expr_row e ++ row) (expr_ends p e ++ ends) → Then p (expr_row e) (expr_ends p e) row ends
+  then_expr p e row ends = then_row p (expr_row e) (expr_ends p e) row ends (expr_beside e p) (expr_end e p)
 
-  then_stmt : (p : ℕ) (a : Stmt) (row ends : List ℕ) → Beside p (stmt_row a ++ row) (stmt_ends p a ++ ends) → ThenStmt p a row ends
-  then_stmt p a row ends h =
-      let parts = apart (stmt_row a) (stmt_ends p a) row ends (stmt_beside a p) h in
-      let ends = stmt_end a p parts.0.ends_are in
-      record { begins = parts.0; has_end = ends.0; end_is = ends.1; goes_on = parts.1 }
+  then_stmt : (p : ℕ) (a : Stmt) (row ends : List ℕ) → Beside p (stmt_row a ++ row) (stmt_ends p a ++ ends) → Then p (stmt_row a) (stmt_ends p a) row ends
+  then_stmt p a row ends = then_row p (stmt_row a) (stmt_ends p a) row ends (stmt_beside a p) (stmt_end a p)
 
   expr_moved : (e : Expr) {p q : ℕ} → p ≡ q → ExprStands s q e → ExprStands s p e
   expr_moved e is h = subst (λ p. ExprStands s p e) (sym is) h
@@ -138,7 +123,7 @@ module _ (s : Source) where
       (at_is h.rows_are, at_is (at_next h.rows_are), t.has_end, expr_stands a (p + 2) t.begins k.0, expr_moved b t.end_is (expr_stands b (behind (p + 2) (expr_row a)) t.goes_on k.1))
 
   spans : (a : Stmt) (p : ℕ) → StmtBeside p a → Spans s p (stmt_row a)
-  spans a p h = ((stmt_end a p h.ends_are).1, at_fits (stmt_row a) p (row_some a) h.rows_are)
+  spans a p h = ((stmt_end a p h.ends_are).1, at_fits (stmt_row a) p (some a).1 h.rows_are)
 
   stands : (a : Stmt) (p : ℕ) → StmtBeside p a → stmt_known s.variables a ≡ true → Stands s p a
   stands skip p h known = (at_is h.rows_are, spans skip p h)

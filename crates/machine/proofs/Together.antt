@@ -1,10 +1,13 @@
 -- All that wait go on: from the status words to the threads.
-use Rattle.std.proofs.Common.{◌≡◌, ℕ, zero, suc, ◌+◌, ◌*◌, ◌<◌, ◌≤◌, Bool, true, false, cond, not, ◌&&◌, ◌||◌, eqb, List, [], ◌∷◌, length, get_or, drop, set, Some, sym, refl, ap, ◌∙◌, subst, ap₂, ⊎_elim, add-one, arith}
+use Rattle.std.proofs.Common.{◌≡◌, ℕ, zero, suc, ◌+◌, ◌*◌, ◌<◌, ◌≤◌, Bool, true, false, cond, not, ◌&&◌, ◌||◌, eqb, List, [], ◌∷◌, length, get_or, set, Some, sym, refl, ap, ◌∙◌, subst, ap₂, ⊎_elim, add-one, below_more, arith}
 use Rattle.std.specs.List.{slice_get}
-use Rattle.std.proofs.lemmas.List.{set-get_or, length-set, length-take, length-drop, get_or-take, get_or-drop}
+use Rattle.std.proofs.lemmas.List.{set-get_or, length-set, length-take, length-drop}
 use Rattle.std.proofs.lemmas.Bool.{eq-eqb, ne_eqb, cond-true, cond-false, cases_eq, and_right, or_right}
+use Rattle.model.specs.declared.Status.{Status}
+use Rattle.model.specs.declared.Status.TheVariants.{Going as going, Waiting as waiting, Ended as ended, OutOfTurns as out_of_turns}
 use Rattle.model.specs.Kernel.{bit}
-use Rattle.model.specs.Steps.{Status, going, waiting, ended, out_of_turns, is_going, is_waiting, released, Thread, none_going, some_waiting, all_released}
+use Rattle.model.specs.Steps.{is_going, is_waiting, released, Thread, none_going, some_waiting, all_released}
+use Rattle.std.proofs.lemmas.Option.{slice_get_within}
 use Rattle.machine.specs.declared.release.Released.{Released}
 use Rattle.machine.specs.declared.release.Released.TheVariants.{Nobody, Waiting, End}
 use Rattle.machine.specs.Stands.{Source}
@@ -14,7 +17,7 @@ use Rattle.machine.specs.Together.{status_at, Looked, released_word, released_wo
 use Rattle.machine.proofs.Held.{set_status}
 use Rattle.machine.specs.Loads.{load, loads}
 use Rattle.machine.proofs.Loads.{set_lighter}
-use Rattle.machine.proofs.Parts.{nth_within, nth_some, part_set_same, part_set_other}
+use Rattle.machine.proofs.Parts.{status_part, nth_some, part_set_same, part_set_other}
 
 abbrev waits : Released → Bool
 waits Nobody = false
@@ -26,6 +29,24 @@ abbrev pub Looking : List ℕ → ℕ → Released → Type 0
 Looking work n Nobody = ⊥
 Looking work n Waiting = Looked work n Waiting
 Looking work n End = Looked work n End
+
+-- .. and of one thread more
+module _ (work : List ℕ) (n : ℕ) (r : Released) (so_far : Looking work n r) where
+  pub looking_waits : status_at work n ≡ 1 → Looking work (n + 1) Waiting
+  looking_waits one = (below_more (λ j. 0 < status_at work j) n (go r so_far) (omega (arith, one)), (n, omega arith, one))
+    where
+      go : (r : Released) → Looking work n r → (j : ℕ) → j < n → 0 < status_at work j
+      go Nobody h = absurd h
+      go Waiting h = h.0
+      go End h = λ j l. omega (arith, h j l)
+
+  pub looking_stops : 1 < status_at work n → Looking work (n + 1) r
+  looking_stops more = go r so_far
+    where
+      go : (r : Released) → Looking work n r → Looking work (n + 1) r
+      go Nobody h = h
+      go Waiting h = (below_more (λ j. 0 < status_at work j) n h.0 (omega (arith, more)), (h.1.0, omega (arith, h.1.1), h.1.2))
+      go End h = below_more (λ j. 1 < status_at work j) n h more
 
 released_more : (n : ℕ) (work : List ℕ) → released_words (n + 1) work ≡ set (released_words n work) (1024 * n + 257) (released_word (status_at (released_words n work) n))
 released_more n work = ap (λ m. released_words m work) (add-one n)
@@ -41,9 +62,6 @@ module _ (n : ℕ) (work now : List ℕ) (is : now ≡ released_words n work) wh
   pub released_stays : (status_at now n ≡ 1 → ⊥) → now ≡ released_words (n + 1) work
   released_stays other = sym (ap (λ v. set now (1024 * n + 257) v) (cond-false (eqb (status_at now n) 1) 0 _ (ne_eqb (status_at now n) 1 other)) ∙ set-get_or now (1024 * n + 257) 0) ∙ next_released
 
-status_part : (j : ℕ) (work : List ℕ) → get_or (part j work) 257 0 ≡ status_at work j
-status_part j work = get_or-take 1024 (drop (1024 * j) work) 257 0 (omega arith) ∙ get_or-drop (1024 * j) work 257 0
-
 -- the words of a thread once the first n have gone on
 released_other : (n j : ℕ) (work : List ℕ) → n ≤ j → part j (released_words n work) ≡ part j work
 released_other zero j work l = refl
@@ -58,7 +76,7 @@ released_part (suc n) j work l =
     ⊎_elim
     (λ is.
     subst (λ j. part j (released_words (suc n) work) ≡ set (part j work) 257 (released_word (status_at work j))) (sym is)
-    (part_set_same n 257 _ (released_words n work) ∙ ap₂ (λ l v. set l 257 (released_word v)) (released_other n n work (omega arith)) (status_other n work)))
+    (part_set_same n 257 _ (released_words n work) (omega arith) ∙ ap₂ (λ l v. set l 257 (released_word v)) (released_other n n work (omega arith)) (status_other n work)))
     (λ apart. part_set_other n j 257 _ (released_words n work) (omega arith) apart ∙ released_part n j work (omega arith))
     (cases_eq j n)
 
@@ -158,7 +176,7 @@ module _ {s : Source} {work : List ℕ} {ts : List Thread} (h : AllHeld s work t
   code_at j t is = (h.each j t is).status_is ∙ status_part j work
 
   pub none_are_going : ((j : ℕ) → j < length ts → 0 < status_at work j) → none_going ts ≡ true
-  none_are_going each = none_goes ts (λ j t is. code_not_going t.status (omega (arith, code_at j t is, each j (nth_within ts j t is))))
+  none_are_going each = none_goes ts (λ j t is. code_not_going t.status (omega (arith, code_at j t is, each j (slice_get_within ts j t is))))
 
   pub all_go_on : AllHeld s (released_words (length ts) work) (all_released ts)
   all_go_on = record {
@@ -168,7 +186,7 @@ module _ {s : Source} {work : List ℕ} {ts : List Thread} (h : AllHeld s work t
         let t = b.0 in
         let v_is = ap released_word (sym (code_at j t b.1)) ∙ code_released t.status in
         subst (Holds s (part j (released_words (length ts) work))) b.2
-        (subst (λ w. Held s w t.todo t.vars t.left (released t.status)) (sym (released_part (length ts) j work (nth_within ts j t b.1) ∙ ap (λ v. set (part j work) 257 v) v_is)) (set_status (released t.status) (h.each j t b.1)));
+        (subst (λ w. Held s w t.todo t.vars t.left (released t.status)) (sym (released_part (length ts) j work (slice_get_within ts j t b.1) ∙ ap (λ v. set (part j work) 257 v) v_is)) (set_status (released t.status) (h.each j t b.1)));
   }
 
   released_as : {work' : List ℕ} (r : Released) → Looked work (length ts) r → work' ≡ cond (waits r) (released_words (length ts) work) work → ReleasedAs s work work' ts r
@@ -180,7 +198,7 @@ module _ {s : Source} {work : List ℕ} {ts : List Thread} (h : AllHeld s work t
       let one = nth_some ts j looked.1.1 in
       (none_are_going looked.0, some_waits ts j one.0 one.1 (code_waiting one.0.status (code_at j one.0 one.1 ∙ looked.1.2)), subst (λ w. AllHeld s w (all_released ts)) (sym is) all_go_on)
   released_as End looked is =
-      (none_are_going (λ j l. omega (arith, looked j l)), none_waits ts (λ j t is. code_not_waiting t.status (λ one. omega (arith, code_at j t is, looked j (nth_within ts j t is)))), is)
+      (none_are_going (λ j l. omega (arith, looked j l)), none_waits ts (λ j t is. code_not_waiting t.status (λ one. omega (arith, code_at j t is, looked j (slice_get_within ts j t is)))), is)
 
 each_released : (work work' : List ℕ) (n : ℕ) (r : Released) → Looked work n r → work' ≡ cond (waits r) (released_words n work) work → (s : Source) (ts : List Thread) → length ts ≡ n → AllHeld s work ts → ReleasedAs s work work' ts r
 each_released work work' n r looked is s ts same h = released_as h r (subst (λ n. Looked work n r) (sym same) looked) (is ∙ ap (λ n. cond (waits r) (released_words n work) work) (sym same))

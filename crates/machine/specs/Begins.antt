@@ -1,8 +1,9 @@
 -- How threads begin: from a text that was decoded to words that hold its threads.
 use Rattle.std.specs.Prelude.{◌≡◌, ℕ, ◌≤◌, List, [], ◌∷◌, length, replicate}
+use Rattle.model.specs.declared.Status.TheVariants.{Going as going}
 use Rattle.model.specs.Kernel.{Stmt, Kernel}
 use Rattle.model.specs.Rows.{stmt_depth}
-use Rattle.model.specs.Steps.{Thread, going}
+use Rattle.model.specs.Steps.{Thread}
 use Rattle.rows.specs.declared.decoder.Text.{Text}
 use Rattle.rows.specs.Decoded.{Decoded}
 use Rattle.machine.specs.declared.script.Script.{Script}

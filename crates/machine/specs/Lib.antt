@@ -8,3 +8,4 @@ pub mod All
 pub mod Begins
 pub mod Stepped
 pub mod Together
+pub mod Engines

@@ -1,32 +1,22 @@
 -- What a step does to the words, by the head of the statement that it takes: a rule for each head.
-use Rattle.std.specs.Prelude.{◌≡◌, ℕ, ◌+◌, ◌-◌, ◌<◌, ◌≤◌, cond, List, [], ◌∷◌, length, take, ◌==◌, slice_index, slice_index_or, slice_set}
-use Rattle.model.specs.Kernel.{Expr, Change as ModelChange, write, add, changed, value, place}
+use Rattle.std.specs.Prelude.{◌≡◌, ℕ, ◌+◌, ◌-◌, ◌<◌, ◌≤◌, cond, List, [], ◌∷◌, length, take, ◌==◌, slice_index, slice_index_or, slice_set, Some, None, Option}
+use Rattle.model.specs.declared.Change.{Change}
+use Rattle.model.specs.declared.Change.TheVariants.{Write as write, Add as add}
+use Rattle.model.specs.declared.Access.TheVariants.{Reading as reading, Changing as changing}
+use Rattle.model.specs.Kernel.{Expr, changed, value, place}
 use Rattle.model.specs.Rows.{expr_depth}
-use Rattle.model.specs.Steps.{Access as How, reading, changing, Touch}
+use Rattle.model.specs.Steps.{Touch as ModelTouch}
 use Rattle.rows.specs.declared.head.Statement.{Statement}
 use Rattle.rows.specs.declared.head.Statement.TheVariants.{Skip, Seq, Assign, Read, Write, Increase, If, While, Wait}
-use Rattle.machine.specs.declared.touched.Access.{Access}
-use Rattle.machine.specs.declared.touched.Access.TheVariants.{Reading, Changing}
-use Rattle.machine.specs.declared.touched.Change.{Change}
-use Rattle.machine.specs.declared.touched.Change.TheVariants.{Write as Writes, Add as Adds}
-use Rattle.machine.specs.declared.touched.Touched.{Touched}
-use Rattle.machine.specs.declared.touched.Touched.TheVariants.{Nothing, At}
+use Rattle.machine.specs.declared.touched.Touch.{Touch}
 use Rattle.machine.specs.declared.touched.Who.{Who}
 use Rattle.machine.specs.Stands.{Source, ExprStands, EndsAt, end}
 use Rattle.machine.specs.Words.{popped, pushed}
 
-abbrev pub change_of : Change → ModelChange
-change_of Writes = write
-change_of Adds = add
-
-abbrev pub how : Access → How
-how Reading = reading
-how (Changing c) = changing (change_of c)
-
 -- the touches that a thread then has in mind, one at most
-abbrev pub touches : Touched → List Touch
-touches Nothing = []
-touches (At p h) = record { at = p.0; how = how h } ∷ []
+abbrev pub touches : Option Touch → List ModelTouch
+touches None = []
+touches (Some t) = record { at = t.place.0; how = t.access } ∷ []
 
 -- some expression stands at p
 pub record SomeExpr (s : Source) (p : ℕ) : Type 0 where
@@ -64,13 +54,13 @@ module _ (s : Source) (who : Who) (p : ℕ) (w w' : List ℕ) where
     pub is_value : ValueOf s w who (p + 2) v
     pub words_are : w' ≡ popped (slice_set w x v)
 
-  pub record HasRead (m : List ℕ) (x : ℕ) (r : Touched) : Type 0 where
+  pub record HasRead (m : List ℕ) (x : ℕ) (r : Option Touch) : Type 0 where
     pub a : ℕ
     pub is_place : ValueOf s w who (p + 2) a
     pub words_are : w' ≡ popped (slice_set w x (slice_index m (place a (length m))))
     pub touched : touches r ≡ record { at = place a (length m); how = reading } ∷ []
 
-  pub record HasChanged (m m' : List ℕ) (c : ModelChange) (r : Touched) : Type 0 where
+  pub record HasChanged (m m' : List ℕ) (c : Change) (r : Option Touch) : Type 0 where
     pub a : ℕ
     pub v : ℕ
     pub is_place : ValueOf s w who (p + 1) a
@@ -92,13 +82,13 @@ module _ (s : Source) (who : Who) (p : ℕ) (w w' : List ℕ) where
     pub words_are : w' ≡ cond (test == 0) (popped w) (cond (slice_index w 256 == 0) (slice_set w 257 3) (pushed (slice_set w 256 (slice_index w 256 - 1)) (end s (p + 1))))
 
 -- the words and the memory after a step by the statement at p, and what it touched
-abbrev pub Rule : Source → Who → ℕ → List ℕ → List ℕ → List ℕ → List ℕ → Touched → Statement → Type 0
-Rule s who p w w' m m' r Skip = (w' ≡ popped w) × (m' ≡ m) × (r ≡ Nothing)
-Rule s who p w w' m m' r Seq = (w' ≡ pushed (pushed (popped w) (end s (p + 1))) (p + 1)) × (m' ≡ m) × (r ≡ Nothing)
-Rule s who p w w' m m' r (Assign x) = Assigned s who p w w' x × (m' ≡ m) × (r ≡ Nothing)
+abbrev pub Rule : Source → Who → ℕ → List ℕ → List ℕ → List ℕ → List ℕ → Option Touch → Statement → Type 0
+Rule s who p w w' m m' r Skip = (w' ≡ popped w) × (m' ≡ m) × (r ≡ None)
+Rule s who p w w' m m' r Seq = (w' ≡ pushed (pushed (popped w) (end s (p + 1))) (p + 1)) × (m' ≡ m) × (r ≡ None)
+Rule s who p w w' m m' r (Assign x) = Assigned s who p w w' x × (m' ≡ m) × (r ≡ None)
 Rule s who p w w' m m' r (Read x) = HasRead s who p w w' m x r × (m' ≡ m)
 Rule s who p w w' m m' r Write = HasChanged s who p w w' m m' write r
 Rule s who p w w' m m' r Increase = HasChanged s who p w w' m m' add r
-Rule s who p w w' m m' r If = Chosen s who p w w' × (m' ≡ m) × (r ≡ Nothing)
-Rule s who p w w' m m' r While = Turned s who p w w' × (m' ≡ m) × (r ≡ Nothing)
-Rule s who p w w' m m' r Wait = (w' ≡ slice_set (popped w) 257 1) × (m' ≡ m) × (r ≡ Nothing)
+Rule s who p w w' m m' r If = Chosen s who p w w' × (m' ≡ m) × (r ≡ None)
+Rule s who p w w' m m' r While = Turned s who p w w' × (m' ≡ m) × (r ≡ None)
+Rule s who p w w' m m' r Wait = (w' ≡ slice_set (popped w) 257 1) × (m' ≡ m) × (r ≡ None)

@@ -1,11 +1,9 @@
 -- What the value of an expression at a position is promised to be.
-use Rattle.std.specs.Prelude.{◌≡◌, ℕ, ◌≤◌, length}
+use Rattle.std.specs.Prelude.{◌≡◌, ℕ, ◌≤◌, length, Some, None, Option}
 use Rattle.model.specs.declared.Op.{Op}
 use Rattle.model.specs.Kernel.{Expr, op, value}
 use Rattle.model.specs.Rows.{expr_depth}
-use Rattle.rows.specs.declared.head.Expression.TheVariants.{Operation as HeadOperation}
-use Rattle.machine.specs.declared.expression.Operand.{Operand}
-use Rattle.machine.specs.declared.expression.Operand.TheVariants.{Value, Operation}
+use Rattle.rows.specs.declared.head.Expression.TheVariants.{Operation}
 use Rattle.machine.specs.declared.expression.Seen.{Seen}
 use Rattle.machine.specs.Stands.{Source, ExprStands, expression_at}
 
@@ -44,6 +42,6 @@ pub record Valued (s : Source) (v : Seen) (p x : ℕ) : Type 0 where
   pub is : (e : Expr) → ExprStands s p e → x ≡ value_in v e
 
 -- the value of what stands at p, or that it is an operation
-abbrev pub FoundAt : Source → Seen → ℕ → Operand → Type 0
-FoundAt s v p (Value x) = Valued s v p x
-FoundAt s v p Operation = (o : Op) × (HeadOperation o ≡ expression_at s p)
+abbrev pub FoundAt : Source → Seen → ℕ → Option ℕ → Type 0
+FoundAt s v p (Some x) = Valued s v p x
+FoundAt s v p None = (o : Op) × (Operation o ≡ expression_at s p)

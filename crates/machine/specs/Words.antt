@@ -1,33 +1,21 @@
 -- How a thread lies in its 1,024 words.
 use Rattle.std.specs.Prelude.{◌≡◌, ℕ, ◌+◌, ◌-◌, ◌*◌, ◌≤◌, List, [], ◌∷◌, length, take, drop, slice_index, slice_index_or, slice_set}
+use Rattle.model.specs.declared.Status.{Status}
+use Rattle.model.specs.declared.Status.TheVariants.{Going as going, Waiting as waiting, Ended as ended, OutOfTurns as out_of_turns}
 use Rattle.model.specs.Kernel.{Stmt}
-use Rattle.model.specs.Steps.{Status as Model, going, waiting, ended, out_of_turns, Thread}
+use Rattle.model.specs.Steps.{Thread}
 use Rattle.model.specs.Rows.{stmt_depth}
-use Rattle.machine.specs.declared.thread.Status.{Status}
-use Rattle.machine.specs.declared.thread.Status.TheVariants.{Going, Waiting, Ended, OutOfTurns}
 use Rattle.machine.specs.Stands.{Source, Stands}
 
-abbrev pub status_word : Status → ℕ
-status_word Going = 0
-status_word Waiting = 1
-status_word Ended = 2
-status_word OutOfTurns = 3
-
-abbrev pub status_of : ℕ → Status
-status_of x = slice_index_or (Going ∷ Waiting ∷ Ended ∷ []) x OutOfTurns
-
--- in the definitions
-abbrev pub status_as : Status → Model
-status_as Going = going
-status_as Waiting = waiting
-status_as Ended = ended
-status_as OutOfTurns = out_of_turns
-
-abbrev pub status_code : Model → ℕ
+-- the number that stands for what a thread is at
+abbrev pub status_code : Status → ℕ
 status_code going = 0
 status_code waiting = 1
 status_code ended = 2
 status_code out_of_turns = 3
+
+abbrev pub status_of : ℕ → Status
+status_of x = slice_index_or (going ∷ waiting ∷ ended ∷ []) x out_of_turns
 
 -- the stack: the next position, without it, and with another one above it
 abbrev pub top_of : List ℕ → ℕ
@@ -46,7 +34,7 @@ Stack s w [] = Unit {0}
 Stack s w (a ∷ rest) = Stands s (slice_index w (512 + length rest)) a × (stmt_depth a + length rest ≤ 256) × Stack s w rest
 
 -- The words hold a thread's statements, variables, turns and status. What it touched is not kept here.
-pub record Held (s : Source) (w : List ℕ) (todo : List Stmt) (vars : List ℕ) (left : ℕ) (status : Model) : Type 0 where
+pub record Held (s : Source) (w : List ℕ) (todo : List Stmt) (vars : List ℕ) (left : ℕ) (status : Status) : Type 0 where
   pub size : length w ≡ 1024
   pub few : s.variables ≤ 256
   pub short : length s.rows ≤ 65536

@@ -1,27 +1,25 @@
 // All that wait go on in one pass, where the caller knows that no thread is going.
-ghost use Rattle.std.specs.Prelude.{◌≡◌, ◌*◌, ◌≤◌, ◌↔◌, length, IsTrue};
-ghost use Rattle.machine.specs.Together.{Resumed};
+ghost use Rattle.std.specs.Prelude.{◌≡◌, ◌*◌, ◌≤◌, length};
+ghost use Rattle.machine.specs.Together.{released_words, Resumed};
 
-use crate::thread::{STATUS, WORDS};
-
-// Whether a thread with this status word waits.
-fn waits(status: u32) -> bool
-    ensures { IsTrue result ↔ status ≡ 1 }
-{
-    status == 1
-}
+use crate::thread::{STATUS, Status, WORDS, status_named};
 
 // All that wait go on, and whether any did. That is a step where no thread is going, which the caller has to know.
 pub fn resume_all(work: &mut [u32], threads: u32) -> bool
     requires { 1024 * threads ≤ length work.old }
-    ensures { Resumed work.old work.new threads result }
+    ensures words { work.new ≡ released_words threads work.old }
+    ensures resumed { Resumed work.old work.new threads result }
 {
     let mut some = false;
+
+    // By an index, since nothing is known of what a slice ends as once its chunks were lent to be written. The way out of
+    // a turn is labelled for speed: `if let` without it takes three times as long where no thread waits.
     'threads: for j in 0..threads as usize {
-        if !waits(work[WORDS * j + STATUS]) {
+        let at = WORDS * j + STATUS;
+        let Status::Waiting = status_named(work[at]) else {
             continue 'threads;
-        }
-        work[WORDS * j + STATUS] = 0;
+        };
+        work[at] = Status::Going as u32;
         some = true;
     }
     some

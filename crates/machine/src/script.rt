@@ -1,4 +1,5 @@
-// A text as the engine sees it, and the heads that it finds there.
+// A text as the engine sees it, and the heads that it finds there. `rows::head` reads the same heads with a refusal for
+// each word; the engine reads rows that were decoded, and a step has nothing to refuse.
 ghost use Rattle.std.specs.Prelude.{◌≡◌};
 ghost use Rattle.machine.specs.Begins.{Scripted};
 ghost use Rattle.machine.specs.Stands.{source, ExprHead, StmtHead, operation_named, expression_at, statement_at};
@@ -6,7 +7,8 @@ ghost use Rattle.machine.specs.Stands.{source, ExprHead, StmtHead, operation_nam
 use model::Op;
 use rows::head::{Expression, Statement};
 
-// The rows of a text, the table of ends beside them, and how many variables each thread has.
+// The rows of a text, the table of ends beside them, and how many variables each thread has. The table is a slice of its own,
+// since it is lent.
 #[derive(Clone, Copy)]
 pub struct Script<'a> {
     pub rows: &'a [u32],
@@ -31,15 +33,7 @@ impl<'a> Script<'a> {
 pub fn operation_of(code: u32) -> Op
     ensures { result ≡ operation_named code }
 {
-    match code {
-        0 => Op::Add,
-        1 => Op::Sub,
-        2 => Op::Mul,
-        3 => Op::Div,
-        4 => Op::Rem,
-        5 => Op::Less,
-        _ => Op::Same,
-    }
+    Op::try_from(code).unwrap_or(Op::Same)
 }
 
 // The head of the expression that stands there. An operation is told first: that leaves so few cases that they are

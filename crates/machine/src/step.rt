@@ -2,10 +2,10 @@
 ghost use Rattle.machine.specs.Stands.{source};
 ghost use Rattle.machine.specs.Stepped.{CanStep, Stepped};
 
-use crate::rule;
+use crate::rule::{Doing, wait};
 use crate::script::{Script, statement_head};
-use crate::thread::{HEIGHT, Status, pop, top, write_status};
-use crate::touched::{Change, Touched, Who};
+use crate::thread::{HEIGHT, Status, WORDS, pop, top, write_status};
+use crate::touched::{Change, Touch, Who};
 use model::ThreadId;
 use rows::head::Statement;
 
@@ -17,26 +17,39 @@ pub fn step(
     memory: &mut [u32],
     me: ThreadId,
     all: u32,
-) -> Touched
+) -> Option<Touch>
     requires { CanStep (source script.now) words.old }
     ensures { Stepped (source script.now) me.0 all words.old words.new memory.old memory.new result }
 {
+    let Some(words) = words.as_mut_array() else {
+        unreachable!()
+    };
+    step_of(script, words, memory, Who { me, all })
+}
+
+// .. by words of which the type says how many they are, which `step` can't ask of its callers.
+fn step_of(script: &Script, words: &mut [u32; WORDS], memory: &mut [u32], who: Who) -> Option<Touch>
+    requires { CanStep (source script.now) words.old }
+    ensures { Stepped (source script.now) who.me.0 who.all words.old words.new memory.old memory.new result }
+{
     if words[HEIGHT] == 0 {
         write_status(words, Status::Ended);
-        return Touched::Nothing;
+        return None;
     }
-    let who = Who { me, all };
     let at = top(words);
+    let doing = Doing { script, who, at };
+
+    // A rule for each statement, by a match, since the engine has no heap for closures. Three of them touch the memory, and tell it.
     match statement_head(script, at) {
         Statement::Skip => pop(words),
-        Statement::Seq => rule::split(script, words, at),
-        Statement::Assign(x) => rule::assign(script, words, who, x, at),
-        Statement::Read(x) => return rule::read(script, words, memory, who, x, at),
-        Statement::Write => return rule::update(script, words, memory, who, Change::Write, at),
-        Statement::Increase => return rule::update(script, words, memory, who, Change::Add, at),
-        Statement::If => rule::choose(script, words, who, at),
-        Statement::While => rule::turn(script, words, who, at),
-        Statement::Wait => rule::wait(words),
+        Statement::Seq => doing.split(words),
+        Statement::Assign(x) => doing.assign(words, x),
+        Statement::Read(x) => return Some(doing.read(words, memory, x)),
+        Statement::Write => return Some(doing.update(words, memory, Change::Write)),
+        Statement::Increase => return Some(doing.update(words, memory, Change::Add)),
+        Statement::If => doing.choose(words),
+        Statement::While => doing.turn(words),
+        Statement::Wait => wait(words),
     }
-    Touched::Nothing
+    None
 }

@@ -1,12 +1,12 @@
 // Small texts, stepped by hand.
-ghost use Rattle.std.specs.Prelude.{◌<◌};
-ghost use Rattle.machine.specs.Begins.{TextOf};
+ghost use Rattle.std.specs.Prelude.{◌≡◌, ◌<◌};
+ghost use Rattle.model.specs.Kernel.{Stmt};
+ghost use Rattle.machine.specs.Begins.{TextOf, TextStands};
+ghost use Rattle.machine.specs.Engines.{Stays};
 ghost use Rattle.machine.specs.Stands.{source};
 ghost use Rattle.machine.specs.Stepped.{Running};
 
-use crate::all::{advance, begin_all, status_of};
-use crate::release::release_all;
-use crate::resume::resume_all;
+use crate::engine::Engine;
 use crate::script::Script;
 use crate::thread::Status;
 use model::ThreadId;
@@ -14,33 +14,59 @@ use rows::decode;
 use std::test::Fail;
 
 // Thread `me` goes until it waits or stops.
-fn go(script: &Script, work: &mut [u32], memory: &mut [u32], me: ThreadId, all: u32)
-    requires runs { Running (source script.now) work.old memory.old all }
-    requires known { me.0 < all }
-    ensures { Running (source script.now) work.new memory.new all }
+fn go(engine: &mut Engine, me: ThreadId)
+    requires runs { Running (source engine.old.script.now) engine.old.work.now engine.old.memory.now engine.old.threads }
+    requires known { me.0 < engine.old.threads }
+    ensures runs { Running (source engine.old.script.now) engine.new.work.now engine.new.memory.now engine.old.threads }
+    ensures stays { Stays engine.old engine.new }
 {
-    'steps: while let Some(_) = advance(script, work, memory, me, all) {}
+    'steps: while let Some(_) = engine.advance(me) {}
 }
 
-// Two threads go on until both wait or stop, and once more.
+// Both threads go until they wait or stop.
+fn go_both(engine: &mut Engine)
+    requires runs { Running (source engine.old.script.now) engine.old.work.now engine.old.memory.now engine.old.threads }
+    requires two { engine.old.threads ≡ 2 }
+    ensures runs { Running (source engine.old.script.now) engine.new.work.now engine.new.memory.now engine.old.threads }
+    ensures stays { Stays engine.old engine.new }
+{
+    go(engine, ThreadId(0));
+    go(engine, ThreadId(1));
+}
+
+// They begin, and go until they wait or stop.
+fn start(engine: &mut Engine, turns: u32)
+    requires text { (body : Stmt) × TextStands (source engine.old.script.now) body }
+    requires two { engine.old.threads ≡ 2 }
+    ensures runs { Running (source engine.old.script.now) engine.new.work.now engine.new.memory.now engine.old.threads }
+    ensures stays { Stays engine.old engine.new }
+{
+    engine.begin(turns);
+    go_both(engine);
+}
+
+// Two threads go on until both wait or stop, and once more. It takes what `decode` left, since `TextOf` says it of these three.
 fn go_twice<'a>(
     rows: &'a [u32],
     ends: &'a [u32],
     variables: u32,
     turns: u32,
-    memory: &mut [u32],
+    memory: &'a mut [u32],
 ) -> (Status, Status)
     requires { TextOf rows.now ends.now variables }
 {
     let mut work = [0; 2048];
-    begin_all(&mut work, 2, turns);
     let script = Script::new(rows, ends, variables);
-    go(&script, &mut work, memory, ThreadId(0), 2);
-    go(&script, &mut work, memory, ThreadId(1), 2);
-    let _released = release_all(&mut work, 2);
-    go(&script, &mut work, memory, ThreadId(0), 2);
-    go(&script, &mut work, memory, ThreadId(1), 2);
-    (status_of(&work, ThreadId(0)), status_of(&work, ThreadId(1)))
+    let mut engine = Engine {
+        script: &script,
+        threads: 2,
+        work: &mut work,
+        memory,
+    };
+    start(&mut engine, turns);
+    let _released = engine.release();
+    go_both(&mut engine);
+    (engine.status_of(ThreadId(0)), engine.status_of(ThreadId(1)))
 }
 
 fn run_two(rows: &[u32], turns: u32, memory: &mut [u32]) -> Option<(Status, Status)> {
@@ -94,20 +120,22 @@ fn resume_twice<'a>(
     rows: &'a [u32],
     ends: &'a [u32],
     variables: u32,
-    memory: &mut [u32],
+    memory: &'a mut [u32],
 ) -> (bool, bool)
     requires { TextOf rows.now ends.now variables }
 {
     let mut work = [0; 2048];
-    begin_all(&mut work, 2, 9);
     let script = Script::new(rows, ends, variables);
-    go(&script, &mut work, memory, ThreadId(0), 2);
-    go(&script, &mut work, memory, ThreadId(1), 2);
-    let first = resume_all(&mut work, 2);
-    go(&script, &mut work, memory, ThreadId(0), 2);
-    go(&script, &mut work, memory, ThreadId(1), 2);
-    let second = resume_all(&mut work, 2);
-    (first, second)
+    let mut engine = Engine {
+        script: &script,
+        threads: 2,
+        work: &mut work,
+        memory,
+    };
+    start(&mut engine, 9);
+    let first = engine.resume();
+    go_both(&mut engine);
+    (first, engine.resume())
 }
 
 // The threads of `sum` wait once.

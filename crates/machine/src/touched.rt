@@ -1,5 +1,6 @@
 // Who takes a step, and what it touched of the memory.
 use model::{Place, ThreadId};
+pub use model::{Access, Change};
 
 // The thread that takes the step, and how many there are.
 #[derive(Clone, Copy)]
@@ -8,22 +9,9 @@ pub struct Who {
     pub all: u32,
 }
 
-// The ways in which a statement changes a word of the memory.
-#[derive(Clone, Copy)]
-pub enum Change {
-    Write,
-    Add,
-}
-
-#[derive(Clone, Copy)]
-pub enum Access {
-    Reading,
-    Changing(Change),
-}
-
-// What a step touched: at most one place.
-#[derive(Clone, Copy)]
-pub enum Touched {
-    Nothing,
-    At(Place, Access),
+// A step touches one place at most, in one way.
+#[derive(Clone, Copy, Debug, PartialEq, Eq)]
+pub struct Touch {
+    pub place: Place,
+    pub access: Access,
 }

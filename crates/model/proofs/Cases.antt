@@ -2,8 +2,10 @@
 use Rattle.std.proofs.Common.{◌≡◌, ℕ, zero, suc, [], ◌∷◌, Some, refl, arith}
 use mathlib.Core.Bool.{false≢true}
 use Rattle.std.specs.List.{slice_get}
-use Rattle.model.specs.Kernel.{add, write}
-use Rattle.model.specs.Steps.{reading, changing, going, waiting, State, Step, one, together}
+use Rattle.model.specs.declared.Change.TheVariants.{Add as add, Write as write}
+use Rattle.model.specs.declared.Access.TheVariants.{Reading as reading, Changing as changing}
+use Rattle.model.specs.declared.Status.TheVariants.{Going as going, Waiting as waiting}
+use Rattle.model.specs.Steps.{State, Step, one, together}
 use Rattle.model.specs.Races.{here, there}
 use Rattle.model.specs.Cases.{Cases, touch, at, two}
 

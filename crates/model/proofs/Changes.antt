@@ -2,8 +2,10 @@
 use Rattle.std.proofs.Common.{◌≡◌, ℕ, zero, suc, true, List, [], ◌∷◌, get_or, set, refl, ap, subst, arith}
 use mathlib.Core.Bool.{false≢true}
 use Rattle.std.proofs.lemmas.Bool.{and_parts}
-use Rattle.model.specs.Kernel.{Change, write, add, changed, commutes}
-use Rattle.model.specs.Steps.{changing}
+use Rattle.model.specs.declared.Change.{Change}
+use Rattle.model.specs.declared.Change.TheVariants.{Write as write, Add as add}
+use Rattle.model.specs.declared.Access.TheVariants.{Changing as changing}
+use Rattle.model.specs.Kernel.{changed, commutes}
 use Rattle.model.specs.Races.{same_change, together}
 use Rattle.model.specs.Orders.{Lawful}
 

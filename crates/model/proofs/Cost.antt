@@ -1,8 +1,10 @@
 -- Every step makes a state cheaper, so that no order goes on for ever.
 use Rattle.std.proofs.Common.{◌≡◌, ℕ, zero, suc, ◌+◌, ◌*◌, ◌<◌, ◌≤◌, Bool, true, false, cond, ◌||◌, eqb, List, [], ◌∷◌, length, set, Some, sym, refl, ap, subst, mul-le-mul_left, arith}
 use Rattle.std.specs.List.{slice_get}
+use Rattle.model.specs.declared.Status.{Status}
+use Rattle.model.specs.declared.Status.TheVariants.{Going as going, Waiting as waiting, Ended as ended, OutOfTurns as out_of_turns}
 use Rattle.model.specs.Kernel.{bit, Expr, Stmt, skip, seq, assign, read, update, if, while, wait, value}
-use Rattle.model.specs.Steps.{Status, going, waiting, ended, out_of_turns, is_waiting, Thread, State, goes, turn, next_effect, thread_after, some_waiting, released, all_released, Step, one, together, Steps}
+use Rattle.model.specs.Steps.{is_waiting, Thread, State, goes, turn, next_effect, thread_after, some_waiting, released, all_released, Step, one, together, Steps}
 use Rattle.model.specs.Orders.{Ends}
 
 -- no statement takes more steps, with so many turns left

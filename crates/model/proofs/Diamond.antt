@@ -3,7 +3,8 @@ use Rattle.std.proofs.Common.{◌≡◌, ℕ, zero, suc, true, not, List, [], �
 use native.Mathlib.Decide.{ℕ_discrete}
 use Rattle.std.proofs.lemmas.Bool.{and_parts}
 use Rattle.std.specs.List.{slice_get}
-use Rattle.model.specs.Steps.{Touch, Thread, State, going, is_going, thread_after, stepped, none_going, Step, one, together}
+use Rattle.model.specs.declared.Status.TheVariants.{Going as going}
+use Rattle.model.specs.Steps.{Touch, Thread, State, is_going, thread_after, stepped, none_going, Step, one, together}
 use Rattle.model.specs.Races.{In}
 use Rattle.model.specs.Orders.{Clash, Swap}
 use Rattle.model.proofs.Confluence.{Joined, same, clash, swap, Diamond}

@@ -1,8 +1,10 @@
 -- Two effects clash, or can be had in either order: the table's part of the diamond.
 use Rattle.std.proofs.Common.{◌≡◌, ℕ, Bool, true, false, ◌⊎◌, List, [], ◌∷◌, length, sym, refl, ap, subst, inl, inr, length-set, get_or-set_other}
 use native.Mathlib.Decide.{ℕ_discrete}
+use Rattle.model.specs.declared.Access.{Access}
+use Rattle.model.specs.declared.Access.TheVariants.{Reading as reading, Changing as changing}
 use Rattle.model.specs.Kernel.{changed}
-use Rattle.model.specs.Steps.{Access, reading, changing, Touch, Effect, own, reads, changes, touching, thread_after, memory_after}
+use Rattle.model.specs.Steps.{Touch, Effect, own, reads, changes, touching, thread_after, memory_after}
 use Rattle.model.specs.Races.{In, here, together}
 use Rattle.model.proofs.Changes.{either_order, updates_swap}
 

@@ -3,8 +3,10 @@ use Rattle.std.proofs.Common.{◌≡◌, ℕ, zero, suc, ◌+◌, ◌<◌, ◌�
 use mathlib.Core.Bool.{false≢true}
 use Rattle.std.specs.List.{slice_get}
 use Rattle.std.proofs.lemmas.Bool.{cond-true, cond-false}
+use Rattle.model.specs.declared.Status.{Status}
+use Rattle.model.specs.declared.Status.TheVariants.{Going as going, Waiting as waiting, Ended as ended, OutOfTurns as out_of_turns}
 use Rattle.model.specs.Chains.{ChainThrough}
-use Rattle.model.specs.Steps.{Status, going, waiting, ended, out_of_turns, is_going, Thread, State, stepped, none_going, some_waiting, resumed, Step, one, together, Steps, Ended}
+use Rattle.model.specs.Steps.{is_going, Thread, State, stepped, none_going, some_waiting, resumed, Step, one, together, Steps, Ended}
 use Rattle.model.specs.Orders.{next_from, next_state, after, FirstOrderSteps}
 use Rattle.model.proofs.Cost.{state_cost, cheaper}
 

@@ -1,9 +1,13 @@
 -- Worked cases: what the definitions come to on small kernels.
 use Rattle.std.specs.Prelude.{◌≡◌, ℕ, zero, suc, true, false, List, [], ◌∷◌, length, Some, None, Option}
 use Rattle.std.specs.List.{slice_get}
+use Rattle.model.specs.declared.Change.TheVariants.{Write as write, Add as add}
+use Rattle.model.specs.declared.Access.TheVariants.{Reading as reading, Changing as changing}
+use Rattle.model.specs.declared.Status.{Status}
+use Rattle.model.specs.declared.Status.TheVariants.{Going as going, Waiting as waiting, Ended as ended, OutOfTurns as out_of_turns}
 use Rattle.model.specs.declared.Op.TheVariants.{Add, Sub, Mul, Div, Rem, Less, Same}
-use Rattle.model.specs.Kernel.{operate, num, var, me, all, write, add, skip, seq, assign, read, update, if, while, wait, Kernel, place}
-use Rattle.model.specs.Steps.{reading, changing, Touch, Status, going, waiting, ended, out_of_turns, Thread, State, stepped, Step, begin}
+use Rattle.model.specs.Kernel.{operate, num, var, me, all, skip, seq, assign, read, update, if, while, wait, Kernel, place}
+use Rattle.model.specs.Steps.{Touch, Thread, State, stepped, Step, begin}
 use Rattle.model.specs.Races.{together, Race}
 use Rattle.model.specs.Rows.{stmt_row}
 use Rattle.model.specs.Orders.{after}

@@ -2,6 +2,8 @@
 use Rattle.std.specs.Prelude.{ℕ, zero, suc, ◌+◌, ◌-◌, ◌*◌, ◌/◌, ◌%◌, ◌^◌, Bool, true, false, List, ◌==◌, nat_lt, slice_index}
 use Rattle.model.specs.declared.Op.{Op}
 use Rattle.model.specs.declared.Op.TheVariants.{Add, Sub, Mul, Div, Rem, Less, Same}
+use Rattle.model.specs.declared.Change.{Change}
+use Rattle.model.specs.declared.Change.TheVariants.{Write as write, Add as add}
 
 abbrev pub bit : Bool → ℕ
 bit true = 1
@@ -35,11 +37,6 @@ pub data Expr : Type 0 where
   me : Expr
   all : Expr
   op : Op → Expr → Expr → Expr
-
--- The ways in which a statement changes a word of the memory.
-pub data Change : Type 0 where
-  write : Change
-  add : Change
 
 -- what a change by the value v makes of the word w
 abbrev pub changed : Change → ℕ → ℕ → ℕ

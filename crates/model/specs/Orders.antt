@@ -1,9 +1,11 @@
 -- What is promised of the orders in which threads can take their steps.
 use Rattle.std.specs.Prelude.{◌≡◌, ℕ, zero, suc, ◌≤◌, true, cond, ◌⊎◌, List, [], ◌∷◌, Some, ◌≢◌}
 use Rattle.std.specs.List.{slice_get}
+use Rattle.model.specs.declared.Change.{Change}
+use Rattle.model.specs.declared.Status.TheVariants.{Going as going}
 use Rattle.model.specs.Chains.{ChainThrough}
-use Rattle.model.specs.Kernel.{Kernel, Change, changed, commutes}
-use Rattle.model.specs.Steps.{Thread, State, going, is_going, some_waiting, stepped, resumed, Step, Steps, Reaches, Ended, begin}
+use Rattle.model.specs.Kernel.{Kernel, changed, commutes}
+use Rattle.model.specs.Steps.{Thread, State, is_going, some_waiting, stepped, resumed, Step, Steps, Reaches, Ended, begin}
 use Rattle.model.specs.Races.{Race, Racy}
 
 -- two threads clash somewhere

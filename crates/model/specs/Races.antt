@@ -1,8 +1,12 @@
 -- When two threads clash.
 use Rattle.std.specs.Prelude.{◌≡◌, ℕ, Bool, true, false, ◌&&◌, List, ◌∷◌, Some}
 use Rattle.std.specs.List.{slice_get}
-use Rattle.model.specs.Kernel.{Change, write, add, commutes, Kernel}
-use Rattle.model.specs.Steps.{Access, reading, changing, Touch, Thread, State, Reaches, begin}
+use Rattle.model.specs.declared.Change.{Change}
+use Rattle.model.specs.declared.Change.TheVariants.{Write as write, Add as add}
+use Rattle.model.specs.declared.Access.{Access}
+use Rattle.model.specs.declared.Access.TheVariants.{Reading as reading, Changing as changing}
+use Rattle.model.specs.Kernel.{commutes, Kernel}
+use Rattle.model.specs.Steps.{Touch, Thread, State, Reaches, begin}
 
 abbrev pub same_change : Change → Change → Bool
 same_change write write = true

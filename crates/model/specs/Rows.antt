@@ -1,8 +1,10 @@
 -- Texts as rows of words, in prefix order.
 use Rattle.std.specs.Prelude.{◌≡◌, ℕ, ◌+◌, ◌≤◌, max, Bool, true, ◌&&◌, List, [], ◌∷◌, ◌++◌, length, nat_lt}
+use Rattle.model.specs.declared.Change.{Change}
+use Rattle.model.specs.declared.Change.TheVariants.{Write as write, Add as add}
 use Rattle.model.specs.declared.Op.{Op}
 use Rattle.model.specs.declared.Op.TheVariants.{Add, Sub, Mul, Div, Rem, Less, Same}
-use Rattle.model.specs.Kernel.{Expr, num, var, me, all, op, Change, write, add, Stmt, skip, seq, assign, read, update, if, while, wait, Kernel}
+use Rattle.model.specs.Kernel.{Expr, num, var, me, all, op, Stmt, skip, seq, assign, read, update, if, while, wait, Kernel}
 
 abbrev pub op_code : Op → ℕ
 op_code Add = 0

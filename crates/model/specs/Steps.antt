@@ -1,25 +1,17 @@
 -- What threads do, one step at a time and in any order.
 use Rattle.std.specs.Prelude.{◌≡◌, ℕ, zero, suc, Bool, true, false, cond, not, ◌&&◌, ◌||◌, List, [], ◌∷◌, ◌++◌, length, replicate, Some, ◌==◌, slice_index, slice_set}
 use Rattle.std.specs.List.{slice_get}
+use Rattle.model.specs.declared.Change.{Change}
 use Rattle.model.specs.Chains.{Chain}
-use Rattle.model.specs.Kernel.{Change, changed, Expr, Stmt, skip, seq, assign, read, update, if, while, wait, Kernel, value, place}
-
--- How a step touches a place: it reads the word there, or changes it.
-pub data Access : Type 0 where
-  reading : Access
-  changing : Change → Access
+use Rattle.model.specs.declared.Access.{Access}
+use Rattle.model.specs.declared.Access.TheVariants.{Reading as reading, Changing as changing}
+use Rattle.model.specs.declared.Status.{Status}
+use Rattle.model.specs.declared.Status.TheVariants.{Going as going, Waiting as waiting, Ended as ended, OutOfTurns as out_of_turns}
+use Rattle.model.specs.Kernel.{changed, Expr, Stmt, skip, seq, assign, read, update, if, while, wait, Kernel, value, place}
 
 pub record Touch : Type 0 where
   pub at : ℕ
   pub how : Access
-
--- What a thread is at: it takes steps, waits for the others, has nothing left to do, or has met a
--- loop's test with no turn left.
-pub data Status : Type 0 where
-  going : Status
-  waiting : Status
-  ended : Status
-  out_of_turns : Status
 
 abbrev pub is_going : Status → Bool
 is_going going = true

@@ -1,14 +1,17 @@
 // Runs a text in orders that are drawn, and says whether they ended alike, and in which two threads clashed.
 #![tactic(auto)]
 
+ghost use Rattle.std.specs.Prelude.{◌≡◌, length};
+
 use answer::{Left, NoText};
 use cli::fault::Fault;
 use cli::flag::Flag;
-use cli::input::Input;
+use cli::input::{Input, Parts};
 use cli::options::Options;
-use cli::program::{begin, end};
+use cli::program::{begin, finish};
 use kernel::draw::Draw;
-use kernel::drawn::{Drawn, draw_order};
+use kernel::drawn::draw_order;
+use kernel::{Job, Lent};
 use std::fmt;
 use std::process::ExitCode;
 use words::budget::Task;
@@ -31,118 +34,77 @@ a # starts a comment up to the line's end. - is standard input. The buffers take
 most 4194304 bytes in all: 4104, 4098 for each thread, 1 for each order, 20 for each
 word of the memory, and 8 for each of the rows.";
 
-/// What the orders are run on, and by whom.
-#[derive(Clone, Copy)]
-struct Job<'a> {
-    rows: &'a [u32],
-    memory: &'a [u32],
-    threads: u32,
-    turns: u32,
+/// What an order leaves of the memory that is given: as many words, and a state for each thread. The memories are parts of
+/// the one buffer of an input.
+#[derive(Drop)]
+struct Outcome<'a> {
+    given: &'a [u32],
+    memory: &'a mut [u32],
+    states: Vec<u8>,
+    ghost as_many: { length memory.now ≡ length given.now },
+}
+
+impl Outcome<'_> {
+    fn left(&self) -> Left<'_> {
+        Left {
+            memory: self.memory,
+            states: self.states.as_slice(),
+        }
+    }
 }
 
 /// One order from the memory as it was given, and whether two threads clashed in it.
-fn one_order(
+fn run(job: Job, lent: Lent, outcome: &mut Outcome, draw: &mut Draw) -> Result<bool, Fault> {
+    outcome.memory.copy_from_slice(outcome.given);
+    let states = outcome.states.as_mut_slice();
+    draw_order(job, outcome.memory, states, lent, draw).map_err(|_| Fault::NoMemory)
+}
+
+/// Runs all orders, notes in which of them two threads clashed, and says whether all ended like the first: with the
+/// same memory, and the same state for each thread.
+fn run_all(
     job: Job,
-    ends: &mut [u32],
-    memory: &mut [u32],
-    states: &mut [u8],
-    work: &mut [u32],
-    marks: &mut [u32],
-    draw: &mut Draw,
+    lent: Lent,
+    mut draw: Draw,
+    first: &mut Outcome,
+    other: &mut Outcome,
+    clashes: &mut [bool],
 ) -> Result<bool, Fault> {
-    if memory.len() == job.memory.len() {
-        memory.copy_from_slice(job.memory);
-    }
-    match draw_order(
-        job.rows,
-        ends,
-        job.threads,
-        job.turns,
-        memory,
-        states,
-        work,
-        marks,
-        draw,
-    ) {
-        Drawn::Ended(clashed) => Ok(clashed),
-        _ => Err(Fault::NoMemory),
-    }
-}
-
-/// Cuts off the first words of a buffer.
-fn cut(words: &mut [u32], count: usize) -> Result<(&mut [u32], &mut [u32]), Fault> {
-    if words.len() < count {
-        return Err(Fault::NoMemory);
-    }
-    Ok(words.split_at_mut(count))
-}
-
-fn cut_bytes(bytes: &mut [u8], count: usize) -> Result<(&mut [u8], &mut [u8]), Fault> {
-    if bytes.len() < count {
-        return Err(Fault::NoMemory);
-    }
-    Ok(bytes.split_at_mut(count))
-}
-
-fn copy(from: &[u32], to: &mut [u32], states: &[u8], kept: &mut [u8]) {
-    if from.len() == to.len() {
-        to.copy_from_slice(from);
-    }
-    if states.len() == kept.len() {
-        kept.copy_from_slice(states);
-    }
-}
-
-/// Runs all orders, notes in which of them two threads clashed, and says whether all ended alike: with the
-/// same memory, and the same state for each thread. What the first of them left stays behind the memory.
-fn all_orders(
-    job: Job,
-    ends: &mut [u32],
-    rest: &mut [u32],
-    states: &mut [u8],
-    clashes: &mut [u8],
-    seed: u32,
-) -> Result<bool, Fault> {
-    let (memory, rest) = cut(rest, job.memory.len())?;
-    let (first, rest) = cut(rest, job.memory.len())?;
-    let (marks, work) = cut(rest, 2 * job.memory.len().max(1))?;
-    let (states, first_states) = cut_bytes(states, job.threads as usize)?;
-    let mut draw = Draw::new(seed);
+    let Lent { ends, work, marks } = lent;
+    let Some((clash, others)) = clashes.split_first_mut() else {
+        return Ok(true);
+    };
+    *clash = run(job, Lent { ends, work, marks }, first, &mut draw)?;
     let mut alike = true;
-    for (order, clash) in clashes.iter_mut().enumerate() {
-        let clashed = one_order(job, ends, memory, states, work, marks, &mut draw)?;
-        *clash = clashed as u8;
-        if order == 0 {
-            copy(memory, first, states, first_states);
-        }
-        alike = alike && *memory == *first && *states == *first_states;
+    for clash in others {
+        *clash = run(job, Lent { ends, work, marks }, other, &mut draw)?;
+        alike = alike && other.left() == first.left();
     }
     Ok(alike)
 }
 
 /// The numbers of the orders with a clash.
-#[derive(Drop)]
-struct Clashes<'a>(&'a [u8]);
+#[derive(Clone, Copy)]
+struct Clashes<'a>(&'a [bool]);
 
 impl fmt::Display for Clashes<'_> {
     fn fmt<W: fmt::Write>(&self, f: &mut fmt::Formatter<W>) -> fmt::Result {
-        f.write_str("clashes:")?;
-        let mut none = true;
-        for (order, clash) in self.0.iter().enumerate() {
-            if *clash != 0 {
-                none = false;
-                write!(f, " {order}")?;
-            }
+        if !self.0.contains(&true) {
+            return f.write_str("clashes: none");
         }
-        if none { f.write_str(" none") } else { Ok(()) }
+        f.write_str("clashes:")?;
+        for (order, _) in self.0.iter().enumerate().filter(|(_, clash)| **clash) {
+            write!(f, " {order}")?;
+        }
+        Ok(())
     }
 }
 
 /// Prints what came of the orders, and says whether they ended alike without a clash.
-fn print(rt: &HostRuntime, alike: bool, clashes: &[u8], left: Left) -> Result<bool, Fault> {
+fn print(rt: &HostRuntime, alike: bool, clashes: &[bool], left: Left) -> Result<bool, Fault> {
     let word = if alike { "alike" } else { "not alike" };
     println!(rt; "{word}\n{}", Clashes(clashes))?;
-    let even = alike && !clashes.contains(&1);
+    let even = alike && !clashes.contains(&true);
     if even && !clashes.is_empty() {
         println!(rt; "{left}")?;
     }
@@ -150,61 +112,63 @@ fn print(rt: &HostRuntime, alike: bool, clashes: &[u8], left: Left) -> Result<bo
 }
 
 /// Runs the orders that the options ask for, and prints what came of them.
-fn tell(rt: &HostRuntime, options: &Options) -> Result<bool, Fault> {
+fn tell(rt: &HostRuntime, options: Options) -> Result<bool, Fault> {
     let threads = options.threads as usize;
-    let orders = options.orders as usize;
-    let mut input = Input::read(rt, options, Task::Orders(options.threads, options.orders))?;
-    let mut bytes = vec![in rt.alloc(); 0u8; 2 * threads + orders]?;
-    let (clashes, states) = cut_bytes(bytes.as_mut_slice(), orders)?;
-    let (memory, rows, ends, rest) = input.parts();
+    let heap = rt.alloc();
+    let mut input = Input::read(rt, &options, Task::Orders(options.threads, options.orders))?;
+    let mut clashes = vec![in heap; false; options.orders as usize]?;
+    let first_states = vec![in heap; 0u8; threads]?;
+    let other_states = vec![in heap; 0u8; threads]?;
+    let Parts {
+        memory,
+        rows,
+        ends,
+        rest,
+    } = input.parts();
     if let Err(refusal) = rows::decode(rows, ends) {
         println!(rt; "no text\n{}", NoText { rows, refusal })?;
         return Ok(false);
     }
+    let given: &[u32] = memory;
+    let words = given.len();
+    let (first, rest) = rest.split_at_mut_checked(words).ok_or(Fault::NoMemory)?;
+    let (other, rest) = rest.split_at_mut_checked(words).ok_or(Fault::NoMemory)?;
+    let (marks, work) = rest
+        .split_at_mut_checked(2 * words.max(1))
+        .ok_or(Fault::NoMemory)?;
     let job = Job {
         rows,
-        memory,
         threads: options.threads,
         turns: options.turns,
     };
-    let alike = all_orders(job, ends, rest, states, clashes, options.seed)?;
-    let left = Left {
-        memory: first_part(rest, memory.len()),
-        states: first_bytes(states, threads),
+    let mut first = Outcome {
+        given,
+        memory: first,
+        states: first_states,
     };
-    print(rt, alike, clashes, left)
-}
-
-fn first_part(words: &[u32], count: usize) -> &[u32] {
-    if count <= words.len() {
-        &words[0..count]
-    } else {
-        words
-    }
-}
-
-fn first_bytes(bytes: &[u8], count: usize) -> &[u8] {
-    if count <= bytes.len() {
-        &bytes[0..count]
-    } else {
-        bytes
-    }
-}
-
-fn run(rt: &HostRuntime) -> Result<bool, Fault> {
-    let allowed = [
-        Flag::Threads,
-        Flag::Turns,
-        Flag::Memory,
-        Flag::Seed,
-        Flag::Orders,
-    ];
-    match begin(rt, USAGE, &allowed)? {
-        Some(options) => tell(rt, &options),
-        None => Ok(true),
-    }
+    let mut other = Outcome {
+        given,
+        memory: other,
+        states: other_states,
+    };
+    let lent = Lent { ends, work, marks };
+    let draw = Draw::new(options.seed);
+    let clash_flags = clashes.as_mut_slice();
+    let alike = run_all(job, lent, draw, &mut first, &mut other, clash_flags)?;
+    print(rt, alike, clashes.as_slice(), first.left())
 }
 
 fn main(rt: HostRuntime) -> ExitCode {
-    end(&rt, run(&rt))
+    let begun = begin(
+        &rt,
+        USAGE,
+        &[
+            Flag::Threads,
+            Flag::Turns,
+            Flag::Memory,
+            Flag::Seed,
+            Flag::Orders,
+        ],
+    );
+    finish(&rt, begun, tell)
 }

@@ -2,7 +2,9 @@
 use Rattle.std.proofs.Common.{◌≡◌, ℕ, zero, suc, ◌+◌, ◌<◌, List, [], ◌∷◌, ◌++◌, length, set, replicate, sym, refl, ap, ◌∙◌, append_assoc, add-zero, arith, length-append}
 use Rattle.std.proofs.lemmas.List.{set_comm, set_at}
 use Rattle.model.specs.Kernel.{num, var, me, all, op, skip, seq, assign, read, update, if, while, wait}
-use Rattle.rows.specs.Parts.{Sort, exprs, stmts, both, many}
+use Rattle.rows.specs.declared.head.Kind.{Kind}
+use Rattle.rows.specs.declared.head.Kind.TheVariants.{Expression as AnExpression, Statement as AStatement}
+use Rattle.rows.specs.Parts.{Sort, exprs, stmts, sort, both, many}
 use Rattle.rows.specs.Table.{expr_ends, stmt_ends}
 use Rattle.rows.specs.Told.{entered, marked}
 
@@ -57,7 +59,7 @@ both_beside S T s t x at = appended (S.ends at x.0) _ (T.ends _ x.1) _ (s x.0 at
 
 pub many_beside : {A : Type 0} (S : Sort A) → Beside S → (n : ℕ) → Beside (many S n)
 many_beside S s zero = λ x at. refl
-many_beside S s (suc n) = both_beside S (many S n) s (many_beside S s n)
+many_beside S s (suc n) = both_beside (many S n) S (many_beside S s n) s
 
 pub expr_beside : Beside exprs
 expr_beside (num n) at = refl
@@ -75,3 +77,7 @@ stmt_beside (update c e f) at = ap suc (appended (expr_ends _ e) _ (expr_ends _ 
 stmt_beside (if e p q) at = ap suc (appended (expr_ends _ e) _ (stmt_ends _ p ++ stmt_ends _ q) _ (expr_beside e _) (appended (stmt_ends _ p) _ (stmt_ends _ q) _ (stmt_beside p _) (stmt_beside q _)))
 stmt_beside (while e p) at = ap suc (appended (expr_ends _ e) _ (stmt_ends _ p) _ (expr_beside e _) (stmt_beside p _))
 stmt_beside wait at = refl
+
+pub part_beside : (c : Kind) → Beside (sort c)
+part_beside AnExpression = expr_beside
+part_beside AStatement = stmt_beside

@@ -9,14 +9,15 @@ use Rattle.model.specs.declared.Op.TheVariants.{Add, Sub, Mul, Div, Rem, Less, S
 use Rattle.rows.specs.declared.head.Expression.TheVariants.{Number, Variable, Me, All, Operation}
 use Rattle.rows.specs.declared.head.Statement.TheVariants.{Skip, Seq, Assign, Read, Write, Increase, If, While, Wait}
 use Rattle.rows.specs.Decoded.{Reason}
-use Rattle.rows.specs.Heads.{Got, got, bad, then, refuse, word_at, variable_of, variable_at, operation_of, operation_at, expression_of, expression_at, statement_of, statement_at}
-use Rattle.rows.specs.Parts.{Sort, exprs, stmts, many, inner_exprs, inner_stmts, operands, expression_row, statement_row, expr_of, stmt_of}
-use Rattle.rows.specs.Reader.{Reader, pair, several, headed, too_deep, read_expr, read_stmt}
+use Rattle.rows.specs.declared.head.Kind.{Kind}
+use Rattle.rows.specs.declared.head.Kind.TheVariants.{Expression as AnExpression, Statement as AStatement}
+use Rattle.rows.specs.Heads.{Got, got, bad, then, refuse, word_at, variable_of, variable_at, operation_of, operation_at, expression_of, statement_of}
+use Rattle.rows.specs.Parts.{Sort, exprs, stmts, many, HeadOf, row_of, exprs_in, stmts_in, Inner, of}
+use Rattle.rows.specs.Reader.{Reader, pair, several, headed, too_deep, head_at, inside, read_part}
 use Rattle.rows.specs.Table.{behind}
-use Rattle.rows.proofs.Exact.{Sound, several_sound, expr_sound, stmt_sound}
+use Rattle.rows.proofs.Exact.{Sound, several_sound, part_sound}
 use Rattle.rows.proofs.Exits.{rest_at}
-use Rattle.rows.proofs.Shapes.{expression_known, statement_known}
-use Rattle.rows.proofs.HeadsExact.{Front, expression_front, statement_front}
+use Rattle.rows.proofs.HeadsExact.{head_front}
 
 -- where a reading in steps failed
 then_failed : {A B : Type 0} (P : Refusal → Type 0) (g : Got A) (f : A → List ℕ → Got B) → ((x : Refusal) → g ≡ bad x → P x) → ((a : A) (l : List ℕ) → g ≡ got a l → (x : Refusal) → f a l ≡ bad x → P x) → (x : Refusal) → then g f ≡ bad x → P x
@@ -27,7 +28,7 @@ failed : {A : Type 0} (P : Refusal → Type 0) (y : Refusal) → P y → (x : Re
 failed P y p x e = subst P (cc) p
 
 succeeded : {A : Type 0} (P : Refusal → Type 0) (a : A) (l : List ℕ) (x : Refusal) → got a l ≡ bad x → P x
-succeeded P a l x e = let z : ◌≡◌ {A = ℕ} 0 1 = cc in absurd (omega arith)
+succeeded P a l x e = absurd (cc)
 
 module _ (w : List ℕ) (room k : ℕ) (variables : k ≡ get_or w 0 0) where
   abbrev True : Refusal → Type 0
@@ -109,15 +110,15 @@ module _ (w : List ℕ) (room k : ℕ) (variables : k ≡ get_or w 0 0) where
 
   several_fair : {A : Type 0} (S : Sort A) (d : ℕ) (f : Reader A) → Sound S d k f → Fair f → (n : ℕ) → Fair (several S f n)
   several_fair S d f sound fair zero = λ at fits. succeeded True tt (drop at w)
-  several_fair S d f sound fair (suc n) = pair_fair S d f (several S f n) sound fair (several_fair S d f sound fair n)
+  several_fair S d f sound fair (suc n) = pair_fair (many S n) d (several S f n) f (several_sound S d k f sound n) (several_fair S d f sound fair n) fair
 
-  headed_fair : {H A : Type 0} {X : H → Type 0} (row : H → List ℕ) (known : H → Bool) (head : Reader H) (inside : (h : H) → Reader (X h)) (of : (h : H) → X h → A) → ((at : ℕ) (ws : List ℕ) (h : H) (s : List ℕ) → head at ws ≡ got h s → Front ws (row h) s (known h)) → Fair head → ((h : H) → Fair (inside h)) → Fair (headed row head inside of)
-  headed_fair row known head inside of fronts fair fair' at fits =
-      then_failed True (head at (drop at w)) _ (fair at fits)
+  headed_fair : (c : Kind) (f : (h : HeadOf c) → Reader (Inner c h)) → Fair (head_at c k) → ((h : HeadOf c) → Fair (f h)) → Fair (headed (row_of c) (head_at c k) f (of c))
+  headed_fair c f fair fair' at fits =
+      then_failed True (head_at c k at (drop at w)) _ (fair at fits)
       (λ h l is.
-      let e = (fronts at (drop at w) h l is).row_is in
-      subst (λ l. (x : Refusal) → then (inside h (behind at (row h)) l) (λ b s. got (of h b) s) ≡ bad x → True x) (sym (rest_at w (row h) l at e))
-      (then_failed True (inside h (behind at (row h)) (drop (behind at (row h)) w)) _ (fair' h (behind at (row h)) (lands (row h) l at fits e)) (λ b m is'. succeeded True (of h b) m)))
+      let e = (head_front c k at (drop at w) h l is).row_is in
+      subst (λ l. (x : Refusal) → then (f h (behind at (row_of c h)) l) (λ b s. got (of c h b) s) ≡ bad x → True x) (sym (rest_at w (row_of c h) l at e))
+      (then_failed True (f h (behind at (row_of c h)) (drop (behind at (row_of c h)) w)) _ (fair' h (behind at (row_of c h)) (lands (row_of c h) l at fits e)) (λ b m is'. succeeded True (of c h b) m)))
 
   too_deep_fair : {H A : Type 0} (head : Reader H) → Fair head → ((at : ℕ) → at ≤ length w → (h : H) (s : List ℕ) → head at (drop at w) ≡ got h s → at < length w) → Fair (too_deep {A = A} head)
   too_deep_fair head fair within at fits = then_failed True (head at (drop at w)) _ (fair at fits) (λ h l is. failed True (record { at = at; why = TooDeep }) (within at fits h l is))
@@ -126,26 +127,22 @@ module _ (w : List ℕ) (room k : ℕ) (variables : k ≡ get_or w 0 0) where
   filled : {A : Type 0} (f : ℕ → ℕ → List ℕ → Got A) (at : ℕ) → at ≤ length w → (a : A) (s : List ℕ) → then (word_at at (drop at w)) (f at) ≡ got a s → at < length w
   filled f at fits a s e =
       ⊎_elim (λ within. within)
-      (λ past. let e' = sym (ap (λ l. then (word_at at l) (f at)) (drop_all at w past)) ∙ e in let z : ◌≡◌ {A = ℕ} 0 1 = cc in absurd (omega arith))
+      (λ past. let e' = sym (ap (λ l. then (word_at at l) (f at)) (drop_all at w past)) ∙ e in absurd (cc))
       (order at (length w))
 
-  expression_fair : Fair (expression_at k)
-  expression_fair = by_word (expression_of k) expression_failed
+  head_fair : (c : Kind) → Fair (head_at c k)
+  head_fair AnExpression = by_word (expression_of k) expression_failed
+  head_fair AStatement = by_word (statement_of k) statement_failed
 
-  statement_fair : Fair (statement_at k)
-  statement_fair = by_word (statement_of k) statement_failed
+  head_filled : (c : Kind) (at : ℕ) → at ≤ length w → (h : HeadOf c) (s : List ℕ) → head_at c k at (drop at w) ≡ got h s → at < length w
+  head_filled AnExpression = filled (expression_of k)
+  head_filled AStatement = filled (statement_of k)
 
-  expr_fair : (d : ℕ) → Fair (read_expr d k)
-  expr_fair zero = too_deep_fair (expression_at k) expression_fair (filled (expression_of k))
-  expr_fair (suc d) = headed_fair expression_row (expression_known k) (expression_at k) (λ h. several exprs (read_expr d k) (operands h)) expr_of (expression_front k) expression_fair (λ h. several_fair exprs d (read_expr d k) (expr_sound d k) (expr_fair d) (operands h))
-
-  pub stmt_fair : (d : ℕ) → Fair (read_stmt d k)
-  stmt_fair zero = too_deep_fair (statement_at k) statement_fair (filled (statement_of k))
-  stmt_fair (suc d) =
-      headed_fair statement_row (statement_known k) (statement_at k)
-      (λ h. pair (many exprs (inner_exprs h)) (several exprs (read_expr d k) (inner_exprs h)) (several stmts (read_stmt d k) (inner_stmts h)))
-      stmt_of (statement_front k) statement_fair
-      (λ h. pair_fair (many exprs (inner_exprs h)) d (several exprs (read_expr d k) (inner_exprs h)) (several stmts (read_stmt d k) (inner_stmts h))
-      (several_sound exprs d k (read_expr d k) (expr_sound d k) (inner_exprs h))
-      (several_fair exprs d (read_expr d k) (expr_sound d k) (expr_fair d) (inner_exprs h))
-      (several_fair stmts d (read_stmt d k) (stmt_sound d k) (stmt_fair d) (inner_stmts h)))
+  pub part_fair : (c : Kind) (d : ℕ) → Fair (read_part c d k)
+  part_fair c zero = too_deep_fair (head_at c k) (head_fair c) (head_filled c)
+  part_fair c (suc d) =
+      headed_fair c (inside (read_part AnExpression d k) (read_part AStatement d k) c) (head_fair c)
+      (λ h. pair_fair (many exprs (exprs_in c h)) d (several exprs (read_part AnExpression d k) (exprs_in c h)) (several stmts (read_part AStatement d k) (stmts_in c h))
+      (several_sound exprs d k (read_part AnExpression d k) (part_sound AnExpression d k) (exprs_in c h))
+      (several_fair exprs d (read_part AnExpression d k) (part_sound AnExpression d k) (part_fair AnExpression d) (exprs_in c h))
+      (several_fair stmts d (read_part AStatement d k) (part_sound AStatement d k) (part_fair AStatement d) (stmts_in c h)))

@@ -1,19 +1,23 @@
 -- What stands in a statement or an expression: its head, which says how many expressions and then how
 -- many statements follow, and these. Each fact about texts is then shown once for any number of parts.
-use Rattle.std.specs.Prelude.{ℕ, zero, suc, ◌+◌, max, Bool, true, ◌&&◌, List, [], ◌∷◌, ◌++◌}
-use Rattle.model.specs.Kernel.{Expr, num, var, me, all, op, write, add, Stmt, skip, seq, assign, read, update, if, while, wait}
+use Rattle.std.specs.Prelude.{ℕ, zero, suc, ◌+◌, max, Bool, true, ◌&&◌, List, [], ◌∷◌, ◌++◌, length}
+use Rattle.model.specs.declared.Change.TheVariants.{Write as write, Add as add}
+use Rattle.model.specs.Kernel.{Expr, num, var, me, all, op, Stmt, skip, seq, assign, read, update, if, while, wait}
 use Rattle.model.specs.Rows.{op_code, expr_row, expr_known, expr_depth, stmt_row, stmt_known, stmt_depth}
 use Rattle.rows.specs.declared.head.Expression.{Expression}
 use Rattle.rows.specs.declared.head.Expression.TheVariants.{Number, Variable, Me, All, Operation}
 use Rattle.rows.specs.declared.head.Statement.{Statement}
 use Rattle.rows.specs.declared.head.Statement.TheVariants.{Skip, Seq, Assign, Read, Write, Increase, If, While, Wait}
+use Rattle.rows.specs.declared.head.Kind.{Kind}
+use Rattle.rows.specs.declared.head.Kind.TheVariants.{Expression as AnExpression, Statement as AStatement}
+use Rattle.rows.specs.declared.head.Head.{Head}
 use Rattle.rows.specs.declared.part.Part.{Part}
 use Rattle.rows.specs.Table.{behind, expr_ends, stmt_ends, stmt_count}
 
 -- so many of a kind
 abbrev pub Many : Type 0 → ℕ → Type 0
 Many A zero = Unit {0}
-Many A (suc n) = A × Many A n
+Many A (suc n) = Many A n × A
 
 abbrev pub expression_row : Expression → List ℕ
 expression_row (Number n) = 0 ∷ n ∷ []
@@ -34,7 +38,7 @@ expr_of (Number n) es = num n
 expr_of (Variable x) es = var x
 expr_of Me es = me
 expr_of All es = all
-expr_of (Operation o) es = op o es.0 es.1.0
+expr_of (Operation o) es = op o es.0.1 es.1
 
 abbrev pub statement_row : Statement → List ℕ
 statement_row Skip = 0 ∷ []
@@ -69,20 +73,55 @@ inner_stmts If = 2
 inner_stmts While = 1
 inner_stmts Wait = 0
 
--- what stands in a statement: expressions, and then statements
-abbrev pub Inner : Statement → Type 0
-Inner h = Many Expr (inner_exprs h) × Many Stmt (inner_stmts h)
+-- Expressions and statements alike: what they are, what their heads are, the words of a head, and how many
+-- expressions and then how many statements follow it.
+abbrev pub Of : Kind → Type 0
+Of AnExpression = Expr
+Of AStatement = Stmt
 
-abbrev pub stmt_of : (h : Statement) → Inner h → Stmt
+abbrev pub HeadOf : Kind → Type 0
+HeadOf AnExpression = Expression
+HeadOf AStatement = Statement
+
+abbrev pub row_of : (c : Kind) → HeadOf c → List ℕ
+row_of AnExpression h = expression_row h
+row_of AStatement h = statement_row h
+
+abbrev pub exprs_in : (c : Kind) → HeadOf c → ℕ
+exprs_in AnExpression h = operands h
+exprs_in AStatement h = inner_exprs h
+
+abbrev pub stmts_in : (c : Kind) → HeadOf c → ℕ
+stmts_in AnExpression h = 0
+stmts_in AStatement h = inner_stmts h
+
+-- how many statements the whole is, without those that stand in it
+abbrev pub own : Kind → ℕ
+own AnExpression = 0
+own AStatement = 1
+
+-- what the code tells of a head
+abbrev pub head_of : (c : Kind) → HeadOf c → Head
+head_of c h = record { words = length (row_of c h); expressions = exprs_in c h; statements = stmts_in c h }
+
+-- what stands behind a head: expressions, and then statements
+abbrev pub Inner : (c : Kind) → HeadOf c → Type 0
+Inner c h = Many Expr (exprs_in c h) × Many Stmt (stmts_in c h)
+
+abbrev pub stmt_of : (h : Statement) → Inner AStatement h → Stmt
 stmt_of Skip x = skip
-stmt_of Seq x = seq x.1.0 x.1.1.0
-stmt_of (Assign v) x = assign v x.0.0
-stmt_of (Read v) x = read v x.0.0
-stmt_of Write x = update write x.0.0 x.0.1.0
-stmt_of Increase x = update add x.0.0 x.0.1.0
-stmt_of If x = if x.0.0 x.1.0 x.1.1.0
-stmt_of While x = while x.0.0 x.1.0
+stmt_of Seq x = seq x.1.0.1 x.1.1
+stmt_of (Assign v) x = assign v x.0.1
+stmt_of (Read v) x = read v x.0.1
+stmt_of Write x = update write x.0.0.1 x.0.1
+stmt_of Increase x = update add x.0.0.1 x.0.1
+stmt_of If x = if x.0.1 x.1.0.1 x.1.1
+stmt_of While x = while x.0.1 x.1.1
 stmt_of Wait x = wait
+
+abbrev pub of : (c : Kind) (h : HeadOf c) → Inner c h → Of c
+of AnExpression h x = expr_of h x.0
+of AStatement h x = stmt_of h x
 
 -- What is said of expressions, of statements and of several of them alike: the row, the ends beside it,
 -- how deep they are, how many statements there are, and whether the variables are among k.
@@ -99,6 +138,10 @@ exprs = record { row = expr_row; ends = expr_ends; depth = expr_depth; count = �
 abbrev pub stmts : Sort Stmt
 stmts = record { row = stmt_row; ends = stmt_ends; depth = stmt_depth; count = stmt_count; known = stmt_known }
 
+abbrev pub sort : (c : Kind) → Sort (Of c)
+sort AnExpression = exprs
+sort AStatement = stmts
+
 -- nothing, one behind the other, and so many of a kind
 abbrev pub nothing : Sort (Unit {0})
 nothing = record { row = λ x. []; ends = λ at x. []; depth = λ x. 0; count = λ x. 0; known = λ k x. true }
@@ -114,10 +157,10 @@ both S T = record {
 
 abbrev pub many : {A : Type 0} → Sort A → (n : ℕ) → Sort (Many A n)
 many S zero = nothing
-many S (suc n) = both S (many S n)
+many S (suc n) = both (many S n) S
 
-abbrev pub inner : (h : Statement) → Sort (Inner h)
-inner h = both (many exprs (inner_exprs h)) (many stmts (inner_stmts h))
+abbrev pub inner : (c : Kind) (h : HeadOf c) → Sort (Inner c h)
+inner c h = both (many exprs (exprs_in c h)) (many stmts (stmts_in c h))
 
 -- what the code tells of a part that begins at `at`
 abbrev pub part_of : {A : Type 0} → Sort A → ℕ → A → Part

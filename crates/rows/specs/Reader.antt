@@ -2,9 +2,11 @@
 -- exactly the texts; the code is held to it, to the place and reason of each refusal.
 use Rattle.std.specs.Prelude.{ℕ, zero, suc, List}
 use Rattle.model.specs.Kernel.{Expr, Stmt}
+use Rattle.rows.specs.declared.head.Kind.{Kind}
+use Rattle.rows.specs.declared.head.Kind.TheVariants.{Expression as AnExpression, Statement as AStatement}
 use Rattle.rows.specs.declared.refusals.Fault.TheVariants.{TooDeep}
 use Rattle.rows.specs.Heads.{Got, got, then, refuse, expression_at, statement_at}
-use Rattle.rows.specs.Parts.{Many, Sort, many, exprs, stmts, expression_row, operands, expr_of, statement_row, inner_exprs, inner_stmts, stmt_of}
+use Rattle.rows.specs.Parts.{Many, Sort, many, exprs, stmts, sort, Of, HeadOf, row_of, exprs_in, stmts_in, Inner, of}
 use Rattle.rows.specs.Table.{behind}
 
 -- what reads an A from the words that begin at a position
@@ -17,7 +19,7 @@ pair S f g at s = then (f at s) (λ a s. then (g (behind at (S.row a)) s) (λ b 
 
 abbrev pub several : {A : Type 0} → Sort A → Reader A → (n : ℕ) → Reader (Many A n)
 several S f zero = λ at s. got tt s
-several S f (suc n) = pair S f (several S f n)
+several S f (suc n) = pair (many S n) (several S f n) f
 
 -- a head, and then what stands in it
 abbrev pub headed : {H A : Type 0} {X : H → Type 0} → (H → List ℕ) → Reader H → ((h : H) → Reader (X h)) → ((h : H) → X h → A) → Reader A
@@ -27,14 +29,19 @@ headed row head inside of at s = then (head at s) (λ h s. then (inside h (behin
 abbrev pub too_deep : {H A : Type 0} → Reader H → Reader A
 too_deep head at s = then (head at s) (λ h s. refuse at TooDeep)
 
--- an expression, or a statement, of a text with k variables, at most so deep
-abbrev pub read_expr : ℕ → ℕ → Reader Expr
-read_expr zero k = too_deep (expression_at k)
-read_expr (suc d) k = headed expression_row (expression_at k) (λ h. several exprs (read_expr d k) (operands h)) expr_of
+-- the head of an expression, or of a statement
+abbrev pub head_at : (c : Kind) → ℕ → Reader (HeadOf c)
+head_at AnExpression k = expression_at k
+head_at AStatement k = statement_at k
 
-abbrev pub read_stmt : ℕ → ℕ → Reader Stmt
-read_stmt zero k = too_deep (statement_at k)
-read_stmt (suc d) k =
-    headed statement_row (statement_at k)
-    (λ h. pair (many exprs (inner_exprs h)) (several exprs (read_expr d k) (inner_exprs h)) (several stmts (read_stmt d k) (inner_stmts h)))
-    stmt_of
+-- what stands behind a head: expressions, and then statements
+abbrev pub inside : Reader Expr → Reader Stmt → (c : Kind) (h : HeadOf c) → Reader (Inner c h)
+inside f g c h = pair (many exprs (exprs_in c h)) (several exprs f (exprs_in c h)) (several stmts g (stmts_in c h))
+
+-- an expression, or a statement, of a text with k variables, at most so deep
+abbrev pub read_part : (c : Kind) → ℕ → ℕ → Reader (Of c)
+read_part c zero k = too_deep (head_at c k)
+read_part c (suc d) k = headed (row_of c) (head_at c k) (inside (read_part AnExpression d k) (read_part AStatement d k) c) (of c)
+
+abbrev pub read_parts : (c : Kind) (n d k : ℕ) → Reader (Many (Of c) n)
+read_parts c n d k = several (sort c) (read_part c d k) n

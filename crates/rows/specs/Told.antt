@@ -1,9 +1,11 @@
 -- What a function of the reader promises: its answer, the table, and the plain bounds that follow.
-use Rattle.std.specs.Prelude.{◌≡◌, ℕ, zero, suc, ◌+◌, ◌≤◌, List, [], ◌∷◌, IfOk, Result, slice_set}
+use Rattle.std.specs.Prelude.{◌≡◌, ℕ, zero, suc, ◌+◌, ◌≤◌, List, [], ◌∷◌, length, drop, IfOk, Result, slice_set}
+use Rattle.rows.specs.declared.head.Words.{Words}
 use Rattle.rows.specs.declared.part.Part.{Part}
 use Rattle.rows.specs.declared.refusals.Refusal.{Refusal}
 use Rattle.rows.specs.Heads.{Got, got, bad, answer}
 use Rattle.rows.specs.Parts.{Sort, part_of}
+use Rattle.rows.specs.Reader.{Reader}
 
 -- A table with some of these ends written into it from `at` on: 0 leaves what stands there.
 abbrev pub entered : List ℕ → ℕ → ℕ → List ℕ
@@ -29,3 +31,7 @@ pub record Told {A : Type 0} (S : Sort A) (g : Got A) (n d at : ℕ) (t t' : Lis
   pub value : r ≡ answer (part_of S at) g
   pub table : Marked S g at t t'
   pub within : IfOk r (Within n d at)
+
+-- the same of what is read from the words of a text, by its number of variables
+abbrev pub ToldOf : {A : Type 0} → Sort A → (ℕ → Reader A) → Words → ℕ → ℕ → List ℕ → List ℕ → Result Part Refusal → Type 0
+ToldOf S f text d at t t' r = Told S (f text.variables at (drop at text.rows.now)) (length text.rows.now) d at t t' r

@@ -1,7 +1,9 @@
 // Heads: the first words of a statement or an expression, up to the parts that stand in it.
 ghost use Rattle.std.specs.Prelude.{◌≡◌, ◌+◌, ◌<◌, ◌≤◌, ◌∷◌, length, drop, IfOk};
 ghost use Rattle.rows.specs.Heads.{word_at, variable_at, operation_at, expression_at, statement_at, answer};
-ghost use Rattle.rows.specs.Parts.{expression_row, operands, statement_row, inner_exprs, inner_stmts};
+ghost use Rattle.rows.specs.Parts.{expression_row, operands, statement_row, inner_exprs, inner_stmts, own, head_of};
+ghost use Rattle.rows.specs.Reader.{head_at};
+ghost use Rattle.rows.specs.declared.head.Kind.TheVariants.{Expression as AnExpression, Statement as AStatement};
 
 use crate::refusals::{Fault, Refusal};
 use model::Op;
@@ -89,87 +91,130 @@ impl Statement {
     }
 }
 
+// A part of a text is one or the other.
+#[derive(Clone, Copy)]
+pub(crate) enum Kind {
+    Expression,
+    Statement,
+}
+
+impl Kind {
+    // How many statements a part of this kind is, without those that stand in it.
+    pub(crate) fn statements(self) -> usize
+        ensures { result ≡ own self }
+    {
+        match self {
+            Kind::Expression => 0,
+            Kind::Statement => 1,
+        }
+    }
+}
+
+// How many words a head has, and how many expressions and then how many statements follow it.
+#[derive(Clone, Copy)]
+pub(crate) struct Head {
+    pub words: usize,
+    pub expressions: u32,
+    pub statements: u32,
+}
+
+impl From<Expression> for Head {
+    fn from(head: Expression) -> Head
+        ensures { result ≡ head_of AnExpression head }
+    {
+        Head {
+            words: head.words(),
+            expressions: head.operands(),
+            statements: 0,
+        }
+    }
+}
+
+impl From<Statement> for Head {
+    fn from(head: Statement) -> Head
+        ensures { result ≡ head_of AStatement head }
+    {
+        Head {
+            words: head.words(),
+            expressions: head.expressions(),
+            statements: head.statements(),
+        }
+    }
+}
+
+// The word at such a position.
 pub fn word(rows: &[u32], at: usize) -> Result<u32, Refusal>
     ensures value { result ≡ answer (λ x. x) (word_at at (drop at rows.now)) }
     ensures front { IfOk result (λ x. drop at rows.now ≡ x ∷ drop (at + 1) rows.now) }
     ensures within { IfOk result (λ x. at < length rows.now) }
 {
-    if at < rows.len() {
-        Ok(rows[at])
-    } else {
-        Err(Refusal {
-            at,
-            why: Fault::EndsEarly,
+    rows.get(at).copied().ok_or(Fault::EndsEarly.at(at))
+}
+
+// The words of a text that has so many variables.
+#[derive(Clone, Copy)]
+pub struct Words<'a> {
+    pub rows: &'a [u32],
+    pub variables: u32,
+}
+
+impl Words<'_> {
+    fn variable(self, at: usize) -> Result<u32, Refusal>
+        ensures { result ≡ answer (λ x. x) (variable_at self.entry.variables at (drop at self.entry.rows.now)) }
+    {
+        let x = word(self.rows, at)?;
+        if x < self.variables {
+            Ok(x)
+        } else {
+            Err(Fault::NoVariable.at(at))
+        }
+    }
+
+    fn operation(self, at: usize) -> Result<Op, Refusal>
+        ensures { result ≡ answer (λ x. x) (operation_at at (drop at self.entry.rows.now)) }
+    {
+        Op::try_from(word(self.rows, at)?).or(Err(Fault::NoOperation.at(at)))
+    }
+
+    // The head of an expression.
+    pub fn expression_head(self, at: usize) -> Result<Expression, Refusal>
+        ensures { result ≡ answer (λ x. x) (expression_at self.entry.variables at (drop at self.entry.rows.now)) }
+    {
+        match word(self.rows, at)? {
+            0 => Ok(Expression::Number(word(self.rows, at + 1)?)),
+            1 => Ok(Expression::Variable(self.variable(at + 1)?)),
+            2 => Ok(Expression::Me),
+            3 => Ok(Expression::All),
+            4 => Ok(Expression::Operation(self.operation(at + 1)?)),
+            _ => Err(Fault::NoExpression.at(at)),
+        }
+    }
+
+    // The head of a statement.
+    pub fn statement_head(self, at: usize) -> Result<Statement, Refusal>
+        ensures { result ≡ answer (λ x. x) (statement_at self.entry.variables at (drop at self.entry.rows.now)) }
+    {
+        match word(self.rows, at)? {
+            0 => Ok(Statement::Skip),
+            1 => Ok(Statement::Seq),
+            2 => Ok(Statement::Assign(self.variable(at + 1)?)),
+            3 => Ok(Statement::Read(self.variable(at + 1)?)),
+            4 => Ok(Statement::Write),
+            5 => Ok(Statement::Increase),
+            6 => Ok(Statement::If),
+            7 => Ok(Statement::While),
+            8 => Ok(Statement::Wait),
+            _ => Err(Fault::NoStatement.at(at)),
+        }
+    }
+
+    // The head of a part of this kind.
+    pub(crate) fn head(self, kind: Kind, at: usize) -> Result<Head, Refusal>
+        ensures { result ≡ answer (head_of kind) (head_at kind self.entry.variables at (drop at self.entry.rows.now)) }
+    {
+        Ok(match kind {
+            Kind::Expression => Head::from(self.expression_head(at)?),
+            Kind::Statement => Head::from(self.statement_head(at)?),
         })
-    }
-}
-
-fn variable(rows: &[u32], variables: u32, at: usize) -> Result<u32, Refusal>
-    ensures { result ≡ answer (λ x. x) (variable_at variables at (drop at rows.now)) }
-{
-    let x = word(rows, at)?;
-    if x < variables {
-        Ok(x)
-    } else {
-        Err(Refusal {
-            at,
-            why: Fault::NoVariable,
-        })
-    }
-}
-
-fn operation(rows: &[u32], at: usize) -> Result<Op, Refusal>
-    ensures { result ≡ answer (λ x. x) (operation_at at (drop at rows.now)) }
-{
-    match word(rows, at)? {
-        0 => Ok(Op::Add),
-        1 => Ok(Op::Sub),
-        2 => Ok(Op::Mul),
-        3 => Ok(Op::Div),
-        4 => Ok(Op::Rem),
-        5 => Ok(Op::Less),
-        6 => Ok(Op::Same),
-        _ => Err(Refusal {
-            at,
-            why: Fault::NoOperation,
-        }),
-    }
-}
-
-// The head of an expression of a text that has so many variables.
-pub fn expression_head(rows: &[u32], variables: u32, at: usize) -> Result<Expression, Refusal>
-    ensures { result ≡ answer (λ x. x) (expression_at variables at (drop at rows.now)) }
-{
-    match word(rows, at)? {
-        0 => Ok(Expression::Number(word(rows, at + 1)?)),
-        1 => Ok(Expression::Variable(variable(rows, variables, at + 1)?)),
-        2 => Ok(Expression::Me),
-        3 => Ok(Expression::All),
-        4 => Ok(Expression::Operation(operation(rows, at + 1)?)),
-        _ => Err(Refusal {
-            at,
-            why: Fault::NoExpression,
-        }),
-    }
-}
-
-// The head of a statement of a text that has so many variables.
-pub fn statement_head(rows: &[u32], variables: u32, at: usize) -> Result<Statement, Refusal>
-    ensures { result ≡ answer (λ x. x) (statement_at variables at (drop at rows.now)) }
-{
-    match word(rows, at)? {
-        0 => Ok(Statement::Skip),
-        1 => Ok(Statement::Seq),
-        2 => Ok(Statement::Assign(variable(rows, variables, at + 1)?)),
-        3 => Ok(Statement::Read(variable(rows, variables, at + 1)?)),
-        4 => Ok(Statement::Write),
-        5 => Ok(Statement::Increase),
-        6 => Ok(Statement::If),
-        7 => Ok(Statement::While),
-        8 => Ok(Statement::Wait),
-        _ => Err(Refusal {
-            at,
-            why: Fault::NoStatement,
-        }),
     }
 }

@@ -11,7 +11,7 @@ pub struct Part {
 }
 
 impl Part {
-    // This part and the one behind it.
+    // This part and the one behind it. The two can't change places, so this is no `+`.
     pub fn joined(self, next: Part) -> Part
         requires fits { self.statements + next.statements < 2 ^ 64 }
         ensures { result ≡ record { end = next.end; statements = self.statements + next.statements; deep = max self.deep next.deep } }
@@ -26,13 +26,13 @@ impl Part {
     // This part under a head that is so many statements itself.
     pub fn under_head(self, own: usize) -> Part
         requires fits { own + self.statements < 2 ^ 64 }
-        requires shallow { self.deep < 256 }
+        requires shallow { self.deep + 1 < 2 ^ 32 }
         ensures { result ≡ record { end = self.end; statements = own + self.statements; deep = suc self.deep } }
     {
         Part {
-            end: self.end,
             statements: own + self.statements,
             deep: self.deep + 1,
+            ..self
         }
     }
 }

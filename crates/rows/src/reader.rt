@@ -1,148 +1,62 @@
 // Reads expressions and statements, with all that stands in them, and writes the table of ends.
-ghost use Rattle.std.specs.Prelude.{◌≡◌, ◌<◌, ◌≤◌, length, drop, slice_set};
-ghost use Rattle.rows.specs.Parts.{exprs, stmts, many};
-ghost use Rattle.rows.specs.Reader.{read_expr, read_stmt, several};
-ghost use Rattle.rows.specs.Told.{Told};
+ghost use Rattle.std.specs.Prelude.{◌≡◌, ◌≤◌, length};
+ghost use Rattle.rows.specs.Parts.{sort, many};
+ghost use Rattle.rows.specs.Reader.{read_part, read_parts};
+ghost use Rattle.rows.specs.Told.{ToldOf};
 
-use crate::head::{expression_head, statement_head};
+use crate::head::{Kind, Words};
 use crate::part::Part;
 use crate::refusals::{Fault, Refusal};
 
-// Writes the end of what begins at `at` into the table.
-fn mark(ends: &mut [u32], at: usize, end: usize)
-    requires within { at < length ends.old }
-    requires fits { end ≤ 65536 }
-    ensures { ends.new ≡ slice_set ends.old at end }
-{
-    ends[at] = end as u32;
+// The words of a text, and the table into which their ends are written.
+#[derive(Drop)]
+pub struct Reader<'a> {
+    pub text: Words<'a>,
+    pub ends: &'a mut [u32],
+    ghost short: { length text.rows.now ≤ 65536 },
+    ghost room: { length text.rows.now ≤ length ends.now },
 }
 
-// One expression of a text with so many variables, at most `depth` deep.
-#[cycle(expression_expressions)]
-fn expression(
-    rows: &[u32],
-    variables: u32,
-    ends: &mut [u32],
-    at: usize,
-    depth: u32,
-) -> Result<Part, Refusal>
-    requires short { length rows.now ≤ 65536 }
-    requires room { length rows.now ≤ length ends.old }
-    requires shallow { depth ≤ 256 }
-    ensures { Told exprs (read_expr depth variables at (drop at rows.now)) (length rows.now) depth at ends.old ends.new result }
-{
-    let head = expression_head(rows, variables, at)?;
-    if depth == 0 {
-        return Err(Refusal {
-            at,
-            why: Fault::TooDeep,
-        });
+impl Reader<'_> {
+    // One part, at most `depth` deep.
+    #[cycle(part_parts)]
+    pub fn part(&mut self, kind: Kind, at: usize, depth: u32) -> Result<Part, Refusal>
+        ensures told { ToldOf (sort kind) (read_part kind depth) self.old.text depth at self.old.ends.now self.new.ends.now result }
+        ensures same_text { self.new.text ≡ self.old.text }
+        ensures same_table { self.new.ends.ghost_name ≡ self.old.ends.ghost_name }
+    {
+        let head = self.text.head(kind, at)?;
+        if depth == 0 {
+            return Err(Fault::TooDeep.at(at));
+        }
+        let front = self.parts(
+            Kind::Expression,
+            at + head.words,
+            head.expressions,
+            depth - 1,
+        )?;
+        let back = self.parts(Kind::Statement, front.end, head.statements, depth - 1)?;
+        self.ends[at] = back.end as u32;
+        Ok(front.joined(back).under_head(kind.statements()))
     }
-    let inner = expressions(
-        rows,
-        variables,
-        ends,
-        at + head.words(),
-        head.operands(),
-        depth - 1,
-    )?;
-    mark(ends, at, inner.end);
-    Ok(inner.under_head(0))
-}
 
-// So many expressions, one behind the other.
-#[cycle(expression_expressions)]
-fn expressions(
-    rows: &[u32],
-    variables: u32,
-    ends: &mut [u32],
-    at: usize,
-    count: u32,
-    depth: u32,
-) -> Result<Part, Refusal>
-    requires short { length rows.now ≤ 65536 }
-    requires room { length rows.now ≤ length ends.old }
-    requires shallow { depth ≤ 256 }
-    requires begins { at ≤ length rows.now }
-    ensures { Told (many exprs count) (several exprs (read_expr depth variables) count at (drop at rows.now)) (length rows.now) depth at ends.old ends.new result }
-{
-    if count == 0 {
-        return Ok(Part {
+    // So many parts, one behind the other.
+    #[cycle(part_parts)]
+    fn parts(&mut self, kind: Kind, at: usize, count: u32, depth: u32) -> Result<Part, Refusal>
+        requires begins { at ≤ length self.old.text.rows.now }
+        ensures told { ToldOf (many (sort kind) count) (read_parts kind count depth) self.old.text depth at self.old.ends.now self.new.ends.now result }
+        ensures same_text { self.new.text ≡ self.old.text }
+        ensures same_table { self.new.ends.ghost_name ≡ self.old.ends.ghost_name }
+    {
+        let mut whole = Part {
             end: at,
             statements: 0,
             deep: 0,
-        });
+        };
+        for _ in 0..count {
+            let next = self.part(kind, whole.end, depth)?;
+            whole = whole.joined(next);
+        }
+        Ok(whole)
     }
-    let first = expression(rows, variables, ends, at, depth)?;
-    let rest = expressions(rows, variables, ends, first.end, count - 1, depth)?;
-    Ok(first.joined(rest))
-}
-
-// One statement of a text with so many variables, at most `depth` deep.
-#[cycle(statement_statements)]
-pub fn statement(
-    rows: &[u32],
-    variables: u32,
-    ends: &mut [u32],
-    at: usize,
-    depth: u32,
-) -> Result<Part, Refusal>
-    requires short { length rows.now ≤ 65536 }
-    requires room { length rows.now ≤ length ends.old }
-    requires shallow { depth ≤ 256 }
-    ensures { Told stmts (read_stmt depth variables at (drop at rows.now)) (length rows.now) depth at ends.old ends.new result }
-{
-    let head = statement_head(rows, variables, at)?;
-    if depth == 0 {
-        return Err(Refusal {
-            at,
-            why: Fault::TooDeep,
-        });
-    }
-    let front = expressions(
-        rows,
-        variables,
-        ends,
-        at + head.words(),
-        head.expressions(),
-        depth - 1,
-    )?;
-    let back = statements(
-        rows,
-        variables,
-        ends,
-        front.end,
-        head.statements(),
-        depth - 1,
-    )?;
-    mark(ends, at, back.end);
-    Ok(front.joined(back).under_head(1))
-}
-
-// So many statements, one behind the other.
-#[cycle(statement_statements)]
-fn statements(
-    rows: &[u32],
-    variables: u32,
-    ends: &mut [u32],
-    at: usize,
-    count: u32,
-    depth: u32,
-) -> Result<Part, Refusal>
-    requires short { length rows.now ≤ 65536 }
-    requires room { length rows.now ≤ length ends.old }
-    requires shallow { depth ≤ 256 }
-    requires begins { at ≤ length rows.now }
-    ensures { Told (many stmts count) (several stmts (read_stmt depth variables) count at (drop at rows.now)) (length rows.now) depth at ends.old ends.new result }
-{
-    if count == 0 {
-        return Ok(Part {
-            end: at,
-            statements: 0,
-            deep: 0,
-        });
-    }
-    let first = statement(rows, variables, ends, at, depth)?;
-    let rest = statements(rows, variables, ends, first.end, count - 1, depth)?;
-    Ok(first.joined(rest))
 }

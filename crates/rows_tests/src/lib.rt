@@ -3,7 +3,7 @@
 
 ghost use Rattle.std.specs.Prelude.{◌≡◌, ◌<◌, ◌≤◌, ◌∷◌, IfOk};
 
-use rows::{Fault, decode};
+use rows::{Fault, Refusal, Text, decode};
 use std::alloc::{AllocError, Global};
 
 // A text that says so many variables and has such a body.
@@ -40,10 +40,7 @@ pub fn tree(rows: &mut Vec<u32>, leaves: u32) -> Result<(), AllocError> {
 // Whether the rows are refused at this place for this reason.
 pub fn refused(heap: Global, rows: &[u32], at: usize, why: Fault) -> Result<bool, AllocError> {
     let mut ends = vec![in heap; 0; rows.len()]?;
-    Ok(match decode(rows, &mut ends) {
-        Ok(_) => false,
-        Err(refusal) => refusal.at == at && refusal.why as u8 == why as u8,
-    })
+    Ok(decode(rows, &mut ends) == Err(Refusal { at, why }))
 }
 
 // Whether the rows are a text with so many variables, statements and levels.
@@ -55,13 +52,13 @@ pub fn accepted(
     deep: u32,
 ) -> Result<bool, AllocError> {
     let mut ends = vec![in heap; 0; rows.len()]?;
-    Ok(match decode(rows, &mut ends) {
-        Ok(text) => text.variables == variables
-            && text.statements == statements
-            && text.deep == deep
-            && text.words == rows.len(),
-        Err(_) => false,
-    })
+    let text = Text {
+        variables,
+        statements,
+        words: rows.len(),
+        deep,
+    };
+    Ok(decode(rows, &mut ends) == Ok(text))
 }
 
 #[cfg(test)]
@@ -78,13 +75,14 @@ mod tests {
         assert!(rt; decode(&SUM, &mut ends).is_ok());
         assert!(rt; ends == [0, 12, 5, 0, 5, 12, 7, 12, 10, 0, 12, 0, 9, 9]);
         let mut short = [0; 11];
-        match decode(&SUM, &mut short) {
-            Ok(_) => Err(Fail::new("a table that is too short was filled")),
-            Err(refusal) => {
-                assert!(rt; refusal.at == 11 && refusal.why as u8 == Fault::ShortTable as u8);
-                Ok(())
-            },
-        }
+        assert_eq!(rt;
+            decode(&SUM, &mut short),
+            Err(Refusal {
+                at: 11,
+                why: Fault::ShortTable
+            })
+        );
+        Ok(())
     }
 
     #[test]

@@ -4,9 +4,9 @@
 use answer::{NoText, Size};
 use cli::fault::Fault;
 use cli::flag::Flag;
-use cli::input::Input;
+use cli::input::{Input, Parts};
 use cli::options::Options;
-use cli::program::{begin, end};
+use cli::program::{begin, finish};
 use std::process::ExitCode;
 use words::budget::Task;
 
@@ -25,9 +25,9 @@ a # starts a comment up to the line's end. - is standard input. A file of more t
 than 4194304 bytes: 4096, 4 for each word of the memory, and 8 for each of the rows.";
 
 /// Whether the rows are a text, which it prints.
-fn tell(rt: &HostRuntime, options: &Options) -> Result<bool, Fault> {
-    let mut input = Input::read(rt, options, Task::Read)?;
-    let (_memory, rows, ends, _rest) = input.parts();
+fn tell(rt: &HostRuntime, options: Options) -> Result<bool, Fault> {
+    let mut input = Input::read(rt, &options, Task::Read)?;
+    let Parts { rows, ends, .. } = input.parts();
     match rows::decode(rows, ends) {
         Ok(text) => {
             println!(rt; "{}", Size(text))?;
@@ -40,13 +40,7 @@ fn tell(rt: &HostRuntime, options: &Options) -> Result<bool, Fault> {
     }
 }
 
-fn run(rt: &HostRuntime) -> Result<bool, Fault> {
-    match begin(rt, USAGE, &[Flag::Threads, Flag::Turns, Flag::Memory])? {
-        Some(options) => tell(rt, &options),
-        None => Ok(true),
-    }
-}
-
 fn main(rt: HostRuntime) -> ExitCode {
-    end(&rt, run(&rt))
+    let begun = begin(&rt, USAGE, &[Flag::Threads, Flag::Turns, Flag::Memory]);
+    finish(&rt, begun, tell)
 }

@@ -1,141 +1,92 @@
-// The rows of expressions and statements, as docs/KERNELS.md lists them. Where a page has no room for the parts of an
-// expression it is `me`, and a statement is `nothing`.
-ghost use Rattle.std.specs.Prelude.{◌<◌};
-ghost use Rattle.texts.specs.Owed.{Written, Opened};
+// What expressions and statements begin with, as docs/KERNELS.md lists them. These are not the heads of `rows`: a page asks which
+// words a part begins with and what stands in its place where there is no room, so those with parts and those without are two types.
+ghost use Rattle.std.specs.Prelude.{◌≡◌, ◌∷◌, option_to_list};
+ghost use Rattle.texts.specs.Spelled.{leaf_row, head_row, parts_in, instead_of};
 
-use crate::page::Page;
-use model::Op;
+use model::{Change, Op};
 
-const ME: u32 = 2;
+/// An expression or a statement with no part in it.
+#[derive(Clone, Copy, Debug, PartialEq)]
+pub enum Leaf {
+    Number(u32),
+    Variable(u32),
+    Me,
+    All,
+    Nothing,
+    Wait,
+}
 
-const NOTHING: u32 = 0;
+/// What an expression or a statement with parts in it begins with.
+#[derive(Clone, Copy, Debug, PartialEq)]
+pub enum Head {
+    /// Both operands are to follow.
+    Operation(Op),
+    /// One statement after the other; both are to follow.
+    Two,
+    /// Sets a variable; its value is to follow.
+    Set(u32),
+    /// Reads to a variable; the place is to follow.
+    Read(u32),
+    /// Changes a word; the place and the value are to follow.
+    Update(Change),
+    /// The test and both statements are to follow.
+    If,
+    /// A loop; the test and the body are to follow.
+    While,
+}
 
-pub fn number(page: &mut Page, n: u32)
-    requires { 0 < page.old.owed }
-    ensures { Written page.old.owed page.new.owed }
-{
-    if page.open(0, 1, ME) {
-        page.leaf(n);
+/// The words of a leaf, or those with which a head begins: one, or two.
+pub type Words = (u32, Option<u32>);
+
+impl Leaf {
+    pub fn words(self) -> Words
+        ensures { result.0 ∷ option_to_list result.1 ≡ leaf_row self }
+    {
+        match self {
+            Leaf::Number(n) => (0, Some(n)),
+            Leaf::Variable(x) => (1, Some(x)),
+            Leaf::Me => (2, None),
+            Leaf::All => (3, None),
+            Leaf::Nothing => (0, None),
+            Leaf::Wait => (8, None),
+        }
     }
 }
 
-pub fn variable(page: &mut Page, x: u32)
-    requires { 0 < page.old.owed }
-    ensures { Written page.old.owed page.new.owed }
-{
-    if page.open(1, 1, ME) {
-        page.leaf(x);
+impl Head {
+    pub fn words(self) -> Words
+        ensures { result.0 ∷ option_to_list result.1 ≡ head_row self }
+    {
+        match self {
+            Head::Operation(op) => (4, Some(u32::from(op))),
+            Head::Two => (1, None),
+            Head::Set(x) => (2, Some(x)),
+            Head::Read(x) => (3, Some(x)),
+            Head::Update(Change::Write) => (4, None),
+            Head::Update(Change::Add) => (5, None),
+            Head::If => (6, None),
+            Head::While => (7, None),
+        }
     }
-}
 
-pub fn me(page: &mut Page)
-    requires { 0 < page.old.owed }
-    ensures { Written page.old.owed page.new.owed }
-{
-    page.leaf(ME);
-}
-
-pub fn all(page: &mut Page)
-    requires { 0 < page.old.owed }
-    ensures { Written page.old.owed page.new.owed }
-{
-    page.leaf(3);
-}
-
-/// An operation whose two operands are to follow, if there is room for it.
-pub fn operation(page: &mut Page, op: Op) -> bool
-    requires { 0 < page.old.owed }
-    ensures { Opened 2 page.old.owed page.new.owed result }
-{
-    let opened = page.open(4, 3, ME);
-    if opened {
-        page.leaf(match op {
-            Op::Add => 0,
-            Op::Sub => 1,
-            Op::Mul => 2,
-            Op::Div => 3,
-            Op::Rem => 4,
-            Op::Less => 5,
-            Op::Same => 6,
-        });
+    /// How many parts are in it.
+    pub fn parts(self) -> u8
+        ensures { result ≡ parts_in self }
+    {
+        match self {
+            Head::Set(_) | Head::Read(_) => 1,
+            Head::If => 3,
+            _ => 2,
+        }
     }
-    opened
-}
 
-pub fn nothing(page: &mut Page)
-    requires { 0 < page.old.owed }
-    ensures { Written page.old.owed page.new.owed }
-{
-    page.leaf(NOTHING);
-}
-
-/// One statement after the other; both are to follow.
-pub fn two(page: &mut Page) -> bool
-    requires { 0 < page.old.owed }
-    ensures { Opened 2 page.old.owed page.new.owed result }
-{
-    page.open(1, 2, NOTHING)
-}
-
-/// Sets a variable; its value is to follow.
-pub fn set(page: &mut Page, x: u32) -> bool
-    requires { 0 < page.old.owed }
-    ensures { Opened 1 page.old.owed page.new.owed result }
-{
-    let opened = page.open(2, 2, NOTHING);
-    if opened {
-        page.leaf(x);
+    /// What stands in its place where a page has no room for it.
+    pub fn instead(self) -> Leaf
+        ensures { result ≡ instead_of self }
+    {
+        match self {
+            Head::Operation(_) => Leaf::Me,
+            _ => Leaf::Nothing,
+        }
     }
-    opened
-}
-
-/// Reads to a variable; the place is to follow.
-pub fn read(page: &mut Page, x: u32) -> bool
-    requires { 0 < page.old.owed }
-    ensures { Opened 1 page.old.owed page.new.owed result }
-{
-    let opened = page.open(3, 2, NOTHING);
-    if opened {
-        page.leaf(x);
-    }
-    opened
-}
-
-/// Writes a word; the place and the value are to follow.
-pub fn write(page: &mut Page) -> bool
-    requires { 0 < page.old.owed }
-    ensures { Opened 2 page.old.owed page.new.owed result }
-{
-    page.open(4, 2, NOTHING)
-}
-
-/// Adds to a word; the place and the value are to follow.
-pub fn add(page: &mut Page) -> bool
-    requires { 0 < page.old.owed }
-    ensures { Opened 2 page.old.owed page.new.owed result }
-{
-    page.open(5, 2, NOTHING)
-}
-
-/// A choice; the test and both statements are to follow.
-pub fn choice(page: &mut Page) -> bool
-    requires { 0 < page.old.owed }
-    ensures { Opened 3 page.old.owed page.new.owed result }
-{
-    page.open(6, 3, NOTHING)
-}
-
-/// A loop; the test and the body are to follow.
-pub fn repeat(page: &mut Page) -> bool
-    requires { 0 < page.old.owed }
-    ensures { Opened 2 page.old.owed page.new.owed result }
-{
-    page.open(7, 2, NOTHING)
-}
-
-pub fn wait(page: &mut Page)
-    requires { 0 < page.old.owed }
-    ensures { Written page.old.owed page.new.owed }
-{
-    page.leaf(8);
 }

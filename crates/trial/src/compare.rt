@@ -1,11 +1,10 @@
 // A text by `run`, in drawn orders, and led step by step: whether all agree.
 use crate::desk::{Desk, Left};
 use kernel::draw::Draw;
-use kernel::drawn::Drawn;
-use kernel::led::Led;
-use kernel::{Clash, Ran};
-use std::fmt;
+use kernel::led::meets;
+use kernel::{Clash, Ran, Refused};
 use texts::case::Case;
+use thiserror::Error;
 
 /// In how many orders each text is run.
 pub const ORDERS: u32 = 20;
@@ -18,102 +17,98 @@ pub struct Picture {
     pub out_of_turns: bool,
 }
 
-/// All orders agree with what `run` says.
-#[derive(Clone, Copy)]
-pub enum Agreed {
-    Even(Picture),
-    Uneven,
-}
-
-/// How they don't. An order is told by its number.
-#[derive(Clone, Copy)]
+/// How orders don't agree with what `run` says. An order is told by its number.
+#[derive(Clone, Copy, Debug, PartialEq, Error)]
 pub enum Disagreement {
+    #[error("the rows are no text")]
     NoText,
+    #[error("too little is lent")]
     TooLittleLent,
+    #[error("even, but order {0} has a clash")]
     EvenButClashes(u32),
+    #[error("even, but order {0} ends otherwise")]
     EvenButEndsOtherwise(u32),
+    #[error("even, but the order of run ends otherwise step by step")]
     EvenButLedElsewhere,
+    #[error("uneven, but order {0} has no clash")]
     UnevenButCalm(u32),
+    #[error("uneven, but the order of run doesn't meet the clash step by step")]
     UnevenButLedElsewhere,
 }
 
-impl fmt::Display for Disagreement {
-    fn fmt<W: fmt::Write>(&self, f: &mut fmt::Formatter<W>) -> fmt::Result {
-        match *self {
-            Disagreement::NoText => f.write_str("the rows are no text"),
-            Disagreement::TooLittleLent => f.write_str("too little is lent"),
-            Disagreement::EvenButClashes(order) => write!(f, "even, but order {order} has a clash"),
-            Disagreement::EvenButEndsOtherwise(order) => {
-                write!(f, "even, but order {order} ends otherwise")
-            }
-            Disagreement::EvenButLedElsewhere => {
-                f.write_str("even, but the order of run ends otherwise step by step")
-            }
-            Disagreement::UnevenButCalm(order) => {
-                write!(f, "uneven, but order {order} has no clash")
-            }
-            Disagreement::UnevenButLedElsewhere => {
-                f.write_str("uneven, but the order of run doesn't meet the clash step by step")
-            }
+/// A text at a desk, and the seed of its drawn orders.
+#[derive(Drop)]
+struct Comparison<'a> {
+    case: &'a Case,
+    desk: &'a mut Desk,
+    seed: u32,
+}
+
+impl Comparison<'_> {
+    /// Runs the text in drawn orders, each from the memory as it is given, up to the first that is judged to disagree.
+    fn drawn<J>(&mut self, judge: J) -> Result<(), Disagreement>
+    where
+        J: Fn(u32, Result<bool, Refused>, &Left) -> Result<(), Disagreement>,
+        requires { J.IsAlwaysCallable judge }
+    {
+        let mut draw = Draw::new(self.seed);
+        for order in 0..ORDERS {
+            let mut left = Left::before(self.case);
+            let drawn = self.desk.draw(self.case, &mut left, &mut draw);
+            judge(order, drawn, &left)?;
+        }
+        Ok(())
+    }
+
+    /// An even text: no order has a clash, and each leaves what `run` left.
+    fn even(&mut self, left: &Left) -> Result<Picture, Disagreement> {
+        self.drawn(|order, drawn, other| match drawn {
+            Ok(false) if *other == *left => Ok(()),
+            Ok(false) => Err(Disagreement::EvenButEndsOtherwise(order)),
+            _ => Err(Disagreement::EvenButClashes(order)),
+        })?;
+        let mut led = Left::before(self.case);
+        match self.desk.lead(self.case, &mut led) {
+            Ok(stretches) if led.same_memory(left) => Ok(Picture {
+                touched: self.desk.touched(),
+                waited: stretches > 1,
+                out_of_turns: left.out_of_turns(),
+            }),
+            _ => Err(Disagreement::EvenButLedElsewhere),
+        }
+    }
+
+    /// An uneven text: each order has a clash, and the one that `run` tells is met again.
+    fn uneven(&mut self, told: Clash) -> Result<(), Disagreement> {
+        self.drawn(|order, drawn, _| match drawn {
+            Ok(true) => Ok(()),
+            _ => Err(Disagreement::UnevenButCalm(order)),
+        })?;
+        let mut led = Left::before(self.case);
+        if meets(self.desk.lead(self.case, &mut led), told) {
+            Ok(())
+        } else {
+            Err(Disagreement::UnevenButLedElsewhere)
         }
     }
 }
 
-/// An even text: no order has a clash, and each leaves what `run` left.
-fn compare_even(
-    case: &Case,
-    desk: &mut Desk,
-    left: &Left,
+/// Runs a text by `run`, in orders drawn from a seed, and led step by step, and compares what they come to: where all agree,
+/// what an even text is like, and nothing of an uneven one.
+pub fn compare<'a>(
+    case: &'a Case,
+    desk: &'a mut Desk,
     seed: u32,
-) -> Result<Agreed, Disagreement> {
-    let mut draw = Draw::new(seed);
-    for order in 0..ORDERS {
-        let mut other = Left::before(case);
-        match desk.draw(case, &mut other, &mut draw) {
-            Drawn::Ended(false) if other == *left => {}
-            Drawn::Ended(false) => return Err(Disagreement::EvenButEndsOtherwise(order)),
-            _ => return Err(Disagreement::EvenButClashes(order)),
-        }
-    }
-    let mut led = Left::before(case);
-    match desk.lead(case, &mut led) {
-        Led::Calm(stretches) if led.same_memory(left) => Ok(Agreed::Even(Picture {
-            touched: desk.touched(),
-            waited: stretches > 1,
-            out_of_turns: left.out_of_turns(),
-        })),
-        _ => Err(Disagreement::EvenButLedElsewhere),
-    }
-}
-
-/// An uneven text: each order has a clash, and the one that `run` tells is met again.
-fn compare_uneven(
-    case: &Case,
-    desk: &mut Desk,
-    told: Clash,
-    seed: u32,
-) -> Result<Agreed, Disagreement> {
-    let mut draw = Draw::new(seed);
-    for order in 0..ORDERS {
-        let mut other = Left::before(case);
-        let Drawn::Ended(true) = desk.draw(case, &mut other, &mut draw) else {
-            return Err(Disagreement::UnevenButCalm(order));
-        };
-    }
-    let mut led = Left::before(case);
-    if desk.lead(case, &mut led).meets(told) {
-        Ok(Agreed::Uneven)
-    } else {
-        Err(Disagreement::UnevenButLedElsewhere)
-    }
-}
-
-/// Runs a text by `run`, in orders drawn from a seed, and led step by step, and compares what they come to.
-pub fn compare(case: &Case, desk: &mut Desk, seed: u32) -> Result<Agreed, Disagreement> {
+) -> Result<Option<Picture>, Disagreement> {
     let mut left = Left::before(case);
-    match desk.run(case, &mut left) {
-        Ran::Even => compare_even(case, desk, &left, seed),
-        Ran::Uneven(told) => compare_uneven(case, desk, told, seed),
+    let ran = desk.run(case, &mut left);
+    let mut comparison = Comparison { case, desk, seed };
+    match ran {
+        Ran::Even => Ok(Some(comparison.even(&left)?)),
+        Ran::Uneven(told) => {
+            comparison.uneven(told)?;
+            Ok(None)
+        }
         Ran::NoKernel => Err(Disagreement::NoText),
         Ran::Few => Err(Disagreement::TooLittleLent),
     }

@@ -1,21 +1,23 @@
 // The buffers for one text at a time, and what is run in them.
-use kernel::Ran;
 use kernel::draw::Draw;
-use kernel::drawn::{Drawn, draw_order};
-use kernel::led::{Led, lead};
+use kernel::drawn::draw_order;
+use kernel::led::{NotCalm, lead};
+use kernel::{Job, Lent, Ran, Refused};
+use model::Status;
 use std::alloc::{AllocError, Global};
 use texts::MOST;
 use texts::case::{Case, MOST_THREADS, MOST_WORDS};
-use words::budget::{Task, words_set_aside};
+use words::budget::Task;
 
-/// What stands for a thread that is out of turns.
-const OUT_OF_TURNS: u8 = 3;
+/// How many states there are at most.
+const MOST_STATES: usize = MOST_THREADS as usize;
 
 /// A memory, and a state for each thread. What a text has no use for stays 0.
+// Plain arrays, since the case has both lengths already, and the zeros behind them are alike in all that is compared.
 #[derive(PartialEq, Drop)]
 pub struct Left {
     memory: [u32; MOST_WORDS],
-    states: [u8; 8],
+    states: [u8; MOST_STATES],
 }
 
 impl Left {
@@ -26,7 +28,7 @@ impl Left {
         memory[0..given.len()].copy_from_slice(given);
         Left {
             memory,
-            states: [0; 8],
+            states: [0; MOST_STATES],
         }
     }
 
@@ -35,7 +37,15 @@ impl Left {
     }
 
     pub fn out_of_turns(&self) -> bool {
-        self.states.contains(&OUT_OF_TURNS)
+        self.states.contains(&(Status::OutOfTurns as u8))
+    }
+}
+
+fn job_of(case: &Case) -> Job<'_> {
+    Job {
+        rows: case.rows(),
+        threads: case.threads(),
+        turns: case.turns(),
     }
 }
 
@@ -49,7 +59,7 @@ pub struct Desk {
 
 impl Desk {
     pub fn new(heap: Global) -> Result<Desk, AllocError> {
-        let asked = words_set_aside(Task::Run(MOST_THREADS), MOST_WORDS, MOST);
+        let asked = Task::Run(MOST_THREADS).words_set_aside(MOST_WORDS, MOST);
         Ok(Desk {
             ends: vec![in heap; 0; MOST]?,
             marks: vec![in heap; 0; 2 * MOST_WORDS]?,
@@ -71,43 +81,35 @@ impl Desk {
         )
     }
 
-    /// What becomes of a drawn order, and what it leaves.
-    pub fn draw(&mut self, case: &Case, left: &mut Left, draw: &mut Draw) -> Drawn {
+    fn lent(&mut self) -> Lent<'_> {
+        Lent {
+            ends: self.ends.as_mut_slice(),
+            work: self.work.as_mut_slice(),
+            marks: self.marks.as_mut_slice(),
+        }
+    }
+
+    /// Whether two threads clash in a drawn order, and what it leaves.
+    pub fn draw(&mut self, case: &Case, left: &mut Left, draw: &mut Draw) -> Result<bool, Refused> {
         let words = case.memory().len();
-        let threads = case.threads();
+        let threads = case.threads() as usize;
         draw_order(
-            case.rows(),
-            self.ends.as_mut_slice(),
-            threads,
-            case.turns(),
+            job_of(case),
             &mut left.memory[0..words],
-            &mut left.states[0..threads as usize],
-            self.work.as_mut_slice(),
-            self.marks.as_mut_slice(),
+            &mut left.states[0..threads],
+            self.lent(),
             draw,
         )
     }
 
-    /// What becomes of the order that is led step by step.
-    pub fn lead(&mut self, case: &Case, left: &mut Left) -> Led {
+    /// In how many stretches the order ends that is led step by step.
+    pub fn lead(&mut self, case: &Case, left: &mut Left) -> Result<u32, NotCalm> {
         let words = case.memory().len();
-        lead(
-            case.rows(),
-            self.ends.as_mut_slice(),
-            case.threads(),
-            case.turns(),
-            &mut left.memory[0..words],
-            self.work.as_mut_slice(),
-            self.marks.as_mut_slice(),
-        )
+        lead(job_of(case), &mut left.memory[0..words], self.lent())
     }
 
     /// Whether the last order touched the memory: then a place has a mark.
     pub fn touched(&self) -> bool {
-        let mut touched = false;
-        for mark in self.marks.as_slice() {
-            touched = touched || *mark != 0;
-        }
-        touched
+        self.marks.iter().any(|mark| *mark != 0)
     }
 }

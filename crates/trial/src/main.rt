@@ -8,7 +8,7 @@ mod report;
 use cli::fault::Fault;
 use cli::flag::Flag;
 use cli::options::Trial;
-use cli::program::{begin_trial, end};
+use cli::program::{begin, finish};
 use compare::compare;
 use desk::Desk;
 use kernel::draw::Draw;
@@ -35,7 +35,7 @@ less than 262144 bytes, however many texts there are.";
 fn tell(rt: &HostRuntime, trial: Trial) -> Result<bool, Fault> {
     let mut desk = Desk::new(rt.alloc())?;
     let mut draw = Draw::new(trial.seed);
-    let mut tally = Tally::none();
+    let mut tally = Tally::default();
     for number in 0..trial.texts {
         let case = Case::draw(&mut draw);
         let compared = compare(&case, &mut desk, number);
@@ -60,13 +60,7 @@ fn tell(rt: &HostRuntime, trial: Trial) -> Result<bool, Fault> {
     Ok(tally.all_agree())
 }
 
-fn run(rt: &HostRuntime) -> Result<bool, Fault> {
-    match begin_trial(rt, USAGE, &[Flag::Texts, Flag::Seed])? {
-        Some(trial) => tell(rt, trial),
-        None => Ok(true),
-    }
-}
-
 fn main(rt: HostRuntime) -> ExitCode {
-    end(&rt, run(&rt))
+    let begun = begin(&rt, USAGE, &[Flag::Texts, Flag::Seed]);
+    finish(&rt, begun, tell)
 }

@@ -1,10 +1,10 @@
 // What is printed of all texts, and of one that disagrees.
-use crate::compare::{Agreed, Disagreement, ORDERS};
+use crate::compare::{Disagreement, ORDERS, Picture};
 use std::fmt;
 use texts::case::Case;
 
 /// How many texts there were of each kind.
-#[derive(Clone, Copy)]
+#[derive(Clone, Copy, Default)]
 pub struct Tally {
     even: u64,
     uneven: u64,
@@ -16,42 +16,35 @@ pub struct Tally {
 }
 
 impl Tally {
-    pub fn none() -> Tally {
-        Tally {
-            even: 0,
-            uneven: 0,
-            no_text: 0,
-            disagree: 0,
-            touched: 0,
-            waited: 0,
-            out_of_turns: 0,
+    /// Counts a text.
+    pub fn count(&mut self, compared: Result<Option<Picture>, Disagreement>) {
+        match compared {
+            Ok(Some(picture)) => self.count_even(picture),
+            Ok(None) => self.uneven = self.uneven.saturating_add(1),
+            Err(why) => {
+                self.disagree = self.disagree.saturating_add(1);
+                if why == Disagreement::NoText {
+                    self.no_text = self.no_text.saturating_add(1);
+                }
+            }
         }
     }
 
-    /// Counts a text.
-    pub fn count(&mut self, compared: Result<Agreed, Disagreement>) {
-        match compared {
-            Ok(Agreed::Even(picture)) => {
-                one_more(&mut self.even, true);
-                one_more(&mut self.touched, picture.touched);
-                one_more(&mut self.waited, picture.waited);
-                one_more(&mut self.out_of_turns, picture.out_of_turns);
-            }
-            Ok(Agreed::Uneven) => one_more(&mut self.uneven, true),
-            Err(why) => {
-                one_more(&mut self.disagree, true);
-                one_more(&mut self.no_text, matches!(why, Disagreement::NoText));
-            }
-        }
+    fn count_even(&mut self, picture: Picture) {
+        let Picture {
+            touched,
+            waited,
+            out_of_turns,
+        } = picture;
+        self.even = self.even.saturating_add(1);
+        self.touched = self.touched.saturating_add(u64::from(touched));
+        self.waited = self.waited.saturating_add(u64::from(waited));
+        self.out_of_turns = self.out_of_turns.saturating_add(u64::from(out_of_turns));
     }
 
     pub fn all_agree(&self) -> bool {
         self.disagree == 0
     }
-}
-
-fn one_more(count: &mut u64, more: bool) {
-    *count = count.saturating_add(u64::from(more));
 }
 
 /// All texts from a seed.
@@ -64,16 +57,19 @@ pub struct Summary {
 
 impl fmt::Display for Summary {
     fn fmt<W: fmt::Write>(&self, f: &mut fmt::Formatter<W>) -> fmt::Result {
-        let Summary { texts, seed, tally } = *self;
-        let Tally {
-            even,
-            uneven,
-            no_text,
-            disagree,
-            touched,
-            waited,
-            out_of_turns,
-        } = tally;
+        let Summary {
+            texts,
+            seed,
+            tally: Tally {
+                even,
+                uneven,
+                no_text,
+                disagree,
+                touched,
+                waited,
+                out_of_turns,
+            },
+        } = *self;
         let orders = even
             .saturating_add(uneven)
             .saturating_mul(u64::from(ORDERS));
@@ -90,15 +86,18 @@ impl fmt::Display for Summary {
     }
 }
 
-/// Words in a line.
+/// Words in a line. The crate `answer` puts a blank before each, for lists behind a name.
 #[derive(Clone, Copy)]
 struct Line<'a>(&'a [u32]);
 
 impl fmt::Display for Line<'_> {
     fn fmt<W: fmt::Write>(&self, f: &mut fmt::Formatter<W>) -> fmt::Result {
-        for (at, word) in self.0.iter().enumerate() {
-            let blank = if at == 0 { "" } else { " " };
-            write!(f, "{blank}{word}")?;
+        let Some((first, others)) = self.0.split_first() else {
+            return Ok(());
+        };
+        write!(f, "{first}")?;
+        for word in others {
+            write!(f, " {word}")?;
         }
         Ok(())
     }
@@ -114,10 +113,9 @@ pub struct Report<'a> {
 
 impl fmt::Display for Report<'_> {
     fn fmt<W: fmt::Write>(&self, f: &mut fmt::Formatter<W>) -> fmt::Result {
-        let number = self.number;
-        let why = self.why;
-        let threads = self.case.threads();
-        let turns = self.case.turns();
+        let Report { number, case, why } = self;
+        let threads = case.threads();
+        let turns = case.turns();
         writeln!(f, "text {number}: {why}")?;
         writeln!(
             f,
@@ -127,7 +125,7 @@ impl fmt::Display for Report<'_> {
             f,
             "# ./kernel orders --threads {threads} --turns {turns} --memory {number}.words --seed {number} {number}.rows"
         )?;
-        writeln!(f, "# {number}.words\n{}", Line(self.case.memory()))?;
-        write!(f, "# {number}.rows\n{}", Line(self.case.rows()))
+        writeln!(f, "# {number}.words\n{}", Line(case.memory()))?;
+        write!(f, "# {number}.rows\n{}", Line(case.rows()))
     }
 }

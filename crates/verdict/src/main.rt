@@ -4,10 +4,10 @@
 use answer::{Even, Left, NoText, Uneven};
 use cli::fault::Fault;
 use cli::flag::Flag;
-use cli::input::Input;
+use cli::input::{Input, Parts};
 use cli::options::Options;
-use cli::program::{begin, end};
-use kernel::{Clash, Ran};
+use cli::program::{begin, finish};
+use kernel::Ran;
 use std::process::ExitCode;
 use words::budget::Task;
 
@@ -38,23 +38,6 @@ fn print_even(rt: &HostRuntime, left: Left, quiet: bool) -> Result<(), Fault> {
     Ok(())
 }
 
-fn print_uneven(rt: &HostRuntime, clash: Clash) -> Result<(), Fault> {
-    let Clash {
-        first,
-        second,
-        place,
-    } = clash;
-    println!(rt;
-        "{}",
-        Uneven {
-            first,
-            second,
-            place
-        }
-    )?;
-    Ok(())
-}
-
 /// Prints that rows are no text, and where and why, for which they are read once more.
 fn print_no_text(
     rt: &HostRuntime,
@@ -70,19 +53,24 @@ fn print_no_text(
 }
 
 /// Runs the text that the options name, prints what came of it, and says whether it is even.
-fn tell(rt: &HostRuntime, options: &Options) -> Result<bool, Fault> {
+fn tell(rt: &HostRuntime, options: Options) -> Result<bool, Fault> {
     let threads = options.threads;
     let quiet = options.quiet;
-    let mut input = Input::read(rt, options, Task::Run(threads))?;
+    let mut input = Input::read(rt, &options, Task::Run(threads))?;
     let mut states = vec![in rt.alloc(); 0u8; threads as usize]?;
     let states = states.as_mut_slice();
-    let (memory, rows, ends, work) = input.parts();
+    let Parts {
+        memory,
+        rows,
+        ends,
+        rest: work,
+    } = input.parts();
     match kernel::run(rows, threads, options.turns, memory, states, work) {
         Ran::Even => {
             print_even(rt, Left { memory, states }, quiet)?;
             return Ok(true);
         }
-        Ran::Uneven(clash) => print_uneven(rt, clash)?,
+        Ran::Uneven(clash) => println!(rt; "{}", Uneven(clash))?,
         Ran::NoKernel => print_no_text(rt, rows, ends, quiet)?,
         // the words that are lent are as many as the call asks for
         Ran::Few => return Err(Fault::NoMemory),
@@ -90,14 +78,11 @@ fn tell(rt: &HostRuntime, options: &Options) -> Result<bool, Fault> {
     Ok(false)
 }
 
-fn run(rt: &HostRuntime) -> Result<bool, Fault> {
-    let allowed = [Flag::Threads, Flag::Turns, Flag::Memory, Flag::Quiet];
-    match begin(rt, USAGE, &allowed)? {
-        Some(options) => tell(rt, &options),
-        None => Ok(true),
-    }
-}
-
 fn main(rt: HostRuntime) -> ExitCode {
-    end(&rt, run(&rt))
+    let begun = begin(
+        &rt,
+        USAGE,
+        &[Flag::Threads, Flag::Turns, Flag::Memory, Flag::Quiet],
+    );
+    finish(&rt, begun, tell)
 }

@@ -1,9 +1,8 @@
 -- The call `run` over numbers: its answer and its clash.
 use Rattle.std.specs.Prelude.{◌≡◌, List, [], ◌∷◌, ℕ}
-use Rattle.kernel.specs.declared.outcome.Clash.{Clash}
 use Rattle.kernel.specs.declared.outcome.Ran.{Ran}
 use Rattle.kernel.specs.declared.outcome.Ran.TheVariants.{Even, Uneven, NoKernel, Few}
-use Rattle.kernel.specs.Says.{RanPost}
+use Rattle.kernel.specs.Says.{Clash, RanPost}
 
 abbrev pub number : Ran → ℕ
 number Even = 0

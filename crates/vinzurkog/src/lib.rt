@@ -9,7 +9,7 @@ ghost use Rattle.vinzurkog.specs.Export.{number, with_clash, Exported};
 
 use kernel::{Clash, Ran, run};
 
-// The number of an answer.
+// The number of an answer, by hand, since C is answered numbers.
 fn number_of(ran: Ran) -> u32
     ensures { result ≡ number ran }
 {

@@ -1,3 +1,2 @@
 -- What is shown of scanning.
 mod Listings
-mod Scans

@@ -1,8 +1,8 @@
 -- Words that are written in decimal are read back.
-use Rattle.std.proofs.Common.{◌≡◌, ℕ, ◌+◌, ◌*◌, ◌/◌, ◌%◌, ◌<◌, List, [], ◌∷◌, ◌++◌, decimal, fold, sym, refl, ap, ◌∙◌, append_assoc, append-nil, arith}
+use Rattle.std.proofs.Common.{◌≡◌, ℕ, ◌+◌, ◌*◌, ◌/◌, ◌%◌, ◌<◌, List, [], ◌∷◌, ◌++◌, decimal, fold, sym, ap, ◌∙◌, append_assoc, append-nil, arith}
 use native.Mathlib.Nat.{div-add-mod}
 use Rattle.std.proofs.lemmas.Fmt.{decimal_by_steps}
-use Rattle.std.proofs.lemmas.List.Sums.{fold_push}
+use Rattle.std.proofs.lemmas.List.Sums.{fold-append, fold_push}
 use Rattle.std.proofs.lemmas.Bool.Decides.{nat_tests}
 use Rattle.std.specs.Option.{option_to_list}
 use Rattle.words.specs.Listing.{AllWords, listing, ListingsReadBack, NumeralsReadBack}
@@ -46,10 +46,6 @@ numerals_read_back w h =
     })
     w h)
 
-folded_append : {S : Type 0} (g : S → ℕ → S) (s : S) (xs ys : List ℕ) → fold g s (xs ++ ys) ≡ fold g (fold g s xs) ys
-folded_append g s [] ys = refl
-folded_append g s (x ∷ xs) ys = folded_append g (g s x) xs ys
-
 abbrev scans_one : Mode → List ℕ → Kind → Mode × List ℕ
 scans_one m ws k = (next m k, ws ++ option_to_list (ended m (next m k)))
 
@@ -70,7 +66,7 @@ scans_decimal ws w h =
 scans_listing : (ws vs : List ℕ) → AllWords vs → scanned Between ws (listing vs) ≡ (Between, ws ++ vs)
 scans_listing ws [] _ = ap (λ (us : List ℕ). (Between, us)) (sym (append-nil ws))
 scans_listing ws (v ∷ vs) (h, hs) =
-    folded_append took (Between, ws) (decimal v) (10 ∷ listing vs)
+    fold-append took (Between, ws) (decimal v) (10 ∷ listing vs)
     ∙ ap (λ (s : Mode × List ℕ). fold took s (10 ∷ listing vs)) (scans_decimal ws v h)
     ∙ scans_listing (ws ++ (v ∷ [])) vs hs
     ∙ ap (λ (us : List ℕ). (Between, us)) (append_assoc ws (v ∷ []) vs)

@@ -7,6 +7,7 @@
 
 pub mod budget;
 pub mod flaw;
+pub mod list;
 pub mod quote;
 pub mod scan;
 pub mod scanner;

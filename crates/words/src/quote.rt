@@ -1,33 +1,24 @@
 // The start of a word, to show in a message.
-ghost use Rattle.std.specs.Prelude.{◌≤◌};
-
+use arrayvec::ArrayString;
 use std::fmt;
 
-const SHOWN: usize = 24;
-
-/// The first bytes of a word. A longer one is shown cut.
-#[derive(Clone, Copy)]
+/// The first bytes of a word, as they are shown. A longer one is shown cut.
+#[derive(Clone, Copy, Debug)]
 pub struct Quote {
-    bytes: [u8; 24],
-    len: usize,
+    shown: ArrayString<24>,
     cut: bool,
-    ghost within: { len ≤ 24 },
 }
 
 impl Quote {
     pub fn new() -> Quote {
         Quote {
-            bytes: [0; 24],
-            len: 0,
+            shown: ArrayString::new(),
             cut: false,
         }
     }
 
     pub fn push(&mut self, byte: u8) {
-        if self.len < SHOWN {
-            self.bytes[self.len] = byte;
-            self.len += 1;
-        } else {
+        if self.shown.try_push(printable(byte)).is_err() {
             self.cut = true;
         }
     }
@@ -56,9 +47,7 @@ fn printable(byte: u8) -> char {
 
 impl fmt::Display for Quote {
     fn fmt<W: fmt::Write>(&self, f: &mut fmt::Formatter<W>) -> fmt::Result {
-        for byte in &self.bytes[0..self.len] {
-            f.write_char(printable(*byte))?;
-        }
+        f.write_str(self.shown.as_str())?;
         if self.cut {
             f.write_str("..")?;
         }

@@ -1,7 +1,7 @@
 // Tells words, white space and comments apart, a byte at a time.
-ghost use Rattle.std.specs.Prelude.{◌≡◌};
+ghost use Rattle.std.specs.Prelude.{◌≡◌, ◌+◌, ◌<◌};
 ghost use Rattle.words.specs.Listing.{ListingsReadBack, NumeralsReadBack};
-ghost use Rattle.words.specs.Scan.{kind, longer, next, read, digit_only, numeral};
+ghost use Rattle.words.specs.Scan.{kind, longer, next, read, digit_only, numeral, in_word, wrong, behind};
 
 use std::fmt;
 
@@ -32,7 +32,7 @@ pub enum Mode {
 }
 
 /// A place in a file: both numbers are counted from 1, and the column counts bytes.
-#[derive(Clone, Copy)]
+#[derive(Clone, Copy, Debug)]
 pub struct Spot {
     pub line: u32,
     pub column: u32,
@@ -40,71 +40,101 @@ pub struct Spot {
 
 impl fmt::Display for Spot {
     fn fmt<W: fmt::Write>(&self, f: &mut fmt::Formatter<W>) -> fmt::Result {
-        let line = self.line;
-        let column = self.column;
-        write!(f, "{line}:{column}")
+        write!(f, "{}:{}", self.line, self.column)
     }
 }
 
-pub fn kind_of(byte: u8) -> Kind
-    ensures { result ≡ kind byte }
-{
-    match byte {
-        10 => Kind::Break,
-        9..=13 | 32 => Kind::Blank,
-        35 => Kind::Hash,
-        48..=57 => Kind::Digit(byte - 48),
-        _ => Kind::Other,
-    }
-}
-
-/// One digit more to the word.
-fn with_digit(mode: Mode, digit: u8) -> Mode
-    ensures { result ≡ longer mode digit }
-{
-    match mode {
-        Mode::Between => Mode::Number(u32::from(digit)),
-        Mode::Number(so_far) => {
-            let grown = 10 * u64::from(so_far) + u64::from(digit);
-            match u32::try_from(grown) {
-                Ok(number) => Mode::Number(number),
-                Err(_) => Mode::Wrong,
-            }
+impl Spot {
+    /// The place behind a byte that stands here.
+    pub(crate) fn behind(self, byte: Kind) -> Spot
+        requires { (self.line < 4294967295) × (self.column < 4294967295) }
+        ensures { result ≡ behind self byte }
+    {
+        match byte {
+            Kind::Break => Spot {
+                line: self.line + 1,
+                column: 1,
+            },
+            _ => Spot {
+                column: self.column + 1,
+                ..self
+            },
         }
-        Mode::Comment | Mode::Wrong => Mode::Wrong,
     }
 }
 
-/// What a byte makes of a mode.
-pub fn step(mode: Mode, byte: Kind) -> Mode
-    ensures { result ≡ next mode byte }
-{
-    match (mode, byte) {
-        (_, Kind::Break) => Mode::Between,
-        (Mode::Comment, _) | (_, Kind::Hash) => Mode::Comment,
-        (_, Kind::Blank) => Mode::Between,
-        (_, Kind::Digit(digit)) => with_digit(mode, digit),
-        (_, Kind::Other) => Mode::Wrong,
+impl From<u8> for Kind {
+    ghost from_gives = { λ b k. k ≡ kind b };
+
+    fn from(byte: u8) -> Kind {
+        match byte {
+            b'\n' => Kind::Break,
+            b'\t'..=b'\r' | b' ' => Kind::Blank,
+            b'#' => Kind::Hash,
+            b'0'..=b'9' => Kind::Digit(byte - b'0'),
+            _ => Kind::Other,
+        }
     }
 }
 
-/// The word that a mode has read, where it has read one.
-pub fn word_of(mode: Mode) -> Option<u32>
-    ensures { result ≡ read mode }
-{
-    match mode {
-        Mode::Number(number) => Some(number),
-        _ => None,
+impl Mode {
+    /// One digit more to the word.
+    fn with_digit(self, digit: u8) -> Mode
+        ensures { result ≡ longer self digit }
+    {
+        match self {
+            Mode::Between => Mode::Number(u32::from(digit)),
+            Mode::Number(so_far) => {
+                let grown = 10 * u64::from(so_far) + u64::from(digit);
+                u32::try_from(grown).map_or(Mode::Wrong, Mode::Number)
+            }
+            Mode::Comment | Mode::Wrong => Mode::Wrong,
+        }
     }
-}
 
-/// What a byte makes of a mode where all are to be digits.
-fn digit_step(mode: Mode, byte: Kind) -> Mode
-    ensures { result ≡ digit_only mode byte }
-{
-    match byte {
-        Kind::Digit(digit) => with_digit(mode, digit),
-        _ => Mode::Wrong,
+    /// What a byte makes of a mode.
+    pub fn step(self, byte: Kind) -> Mode
+        ensures { result ≡ next self byte }
+    {
+        match (self, byte) {
+            (_, Kind::Break) => Mode::Between,
+            (Mode::Comment, _) | (_, Kind::Hash) => Mode::Comment,
+            (_, Kind::Blank) => Mode::Between,
+            (_, Kind::Digit(digit)) => self.with_digit(digit),
+            (_, Kind::Other) => Mode::Wrong,
+        }
+    }
+
+    /// What a byte makes of a mode where all are to be digits.
+    fn digit_step(self, byte: Kind) -> Mode
+        ensures { result ≡ digit_only self byte }
+    {
+        match byte {
+            Kind::Digit(digit) => self.with_digit(digit),
+            _ => Mode::Wrong,
+        }
+    }
+
+    /// The word that a mode has read, where it has read one.
+    pub fn word(self) -> Option<u32>
+        ensures { result ≡ read self }
+    {
+        match self {
+            Mode::Number(number) => Some(number),
+            _ => None,
+        }
+    }
+
+    pub(crate) fn is_in_word(self) -> bool
+        ensures { result ≡ in_word self }
+    {
+        matches!(self, Mode::Number(_) | Mode::Wrong)
+    }
+
+    pub(crate) fn is_wrong(self) -> bool
+        ensures { result ≡ wrong self }
+    {
+        matches!(self, Mode::Wrong)
     }
 }
 
@@ -112,17 +142,14 @@ fn digit_step(mode: Mode, byte: Kind) -> Mode
 pub fn number(text: &[u8]) -> Option<u32>
     ensures { result ≡ numeral text.now }
 {
-    let mut mode = Mode::Between;
-    for byte in text {
-        mode = digit_step(mode, kind_of(*byte));
-    }
-    word_of(mode)
+    let mode = text.iter().fold(Mode::Between, |mode, byte| {
+        mode.digit_step(Kind::from(*byte))
+    });
+    mode.word()
 }
 
 /// Words that are written in decimal, one to a line, are read back, and so is the value of an option.
-pub fn words_read_back() -> u8
+pub fn words_read_back()
     ensures listings { ListingsReadBack }
     ensures numerals { NumeralsReadBack }
-{
-    0
-}
+{}

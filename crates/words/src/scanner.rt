@@ -6,8 +6,9 @@ ghost use Rattle.words.specs.Flaws.{flawed};
 ghost use Rattle.words.specs.Scan.{kind, next, read, in_word, wrong, ended, begun, behind, scanned};
 
 use crate::flaw::{Flaw, Stop};
+use crate::list::WordList;
 use crate::quote::Quote;
-use crate::scan::{Kind, Mode, Spot, kind_of, step, word_of};
+use crate::scan::{Kind, Mode, Spot};
 
 /// How many bytes of a file are read at most, so that a program ends on one that has no end.
 pub const LONGEST: u32 = 67_108_864;
@@ -24,50 +25,6 @@ pub struct Scanner {
     ghost few: { taken ≤ 67108864 },
     ghost line: { at.line ≤ taken + 1 },
     ghost column: { at.column ≤ taken + 1 },
-}
-
-fn place_behind(at: Spot, byte: Kind) -> Spot
-    requires { (at.line < 4294967295) × (at.column < 4294967295) }
-    ensures { result ≡ behind at byte }
-{
-    match byte {
-        Kind::Break => Spot {
-            line: at.line + 1,
-            column: 1,
-        },
-        _ => Spot {
-            line: at.line,
-            column: at.column + 1,
-        },
-    }
-}
-
-fn is_in_word(mode: Mode) -> bool
-    ensures { result ≡ in_word mode }
-{
-    matches!(mode, Mode::Number(_) | Mode::Wrong)
-}
-
-fn is_wrong(mode: Mode) -> bool
-    ensures { result ≡ wrong mode }
-{
-    matches!(mode, Mode::Wrong)
-}
-
-/// Puts the word that ended, if one did, behind the others, unless there are `most` already.
-pub fn keep(words: &mut Vec<u32>, word: Option<u32>, most: usize) -> Result<(), Stop>
-    ensures items { OnOk result (words.new.items ≡ words.old.items ++ option_to_list word) }
-    ensures most { vec_len words.old ≤ most → vec_len words.new ≤ most }
-    ensures full { is_some word ≡ true → most ≤ vec_len words.old → result ≡ Err Full }
-{
-    let Some(word) = word else {
-        return Ok(());
-    };
-    if words.len() >= most {
-        return Err(Stop::Full);
-    }
-    words.push(word)?;
-    Ok(())
 }
 
 impl Scanner {
@@ -101,38 +58,38 @@ impl Scanner {
         if self.taken >= LONGEST {
             return Err(Flaw::TooLong(self.at));
         }
-        let kind = kind_of(byte);
+        let kind = Kind::from(byte);
         let before = self.mode;
         let here = self.at;
-        let after = step(before, kind);
-        self.at = place_behind(here, kind);
+        let after = before.step(kind);
+        self.at = here.behind(kind);
         self.taken += 1;
         self.mode = after;
-        if is_in_word(after) {
-            if !is_in_word(before) {
+        if after.is_in_word() {
+            if !before.is_in_word() {
                 self.word = here;
                 self.quote = Quote::new();
             }
             self.quote.push(byte);
-            if is_wrong(after) && self.quote.is_cut() {
+            if after.is_wrong() && self.quote.is_cut() {
                 return Err(self.no_number());
             }
             return Ok(None);
         }
-        if is_wrong(before) {
+        if before.is_wrong() {
             return Err(self.no_number());
         }
-        Ok(word_of(before))
+        Ok(before.word())
     }
 
-    /// Takes some bytes, and puts the words that end among them behind those in `words`, up to `most` in all.
-    pub fn feed_all(&mut self, bytes: &[u8], words: &mut Vec<u32>, most: usize) -> Result<(), Stop>
-        ensures scanned { OnOk result ((self.new.mode, words.new.items) ≡ scanned self.old.mode words.old.items bytes.now) }
-        ensures most { vec_len words.old ≤ most → vec_len words.new ≤ most }
+    /// Takes some bytes, and puts the words that end among them behind those in `words`.
+    pub fn feed_all(&mut self, bytes: &[u8], words: &mut WordList) -> Result<(), Stop>
+        ensures same_words { words.new.words.ghost_name ≡ words.old.words.ghost_name }
+        ensures scanned { OnOk result ((self.new.mode, words.new.words.now.items) ≡ scanned self.old.mode words.old.words.now.items bytes.now) }
+        ensures most { words.new.most ≡ words.old.most }
     {
         for byte in bytes {
-            let word = self.feed(*byte)?;
-            keep(words, word, most)?;
+            words.keep(self.feed(*byte)?)?;
         }
         Ok(())
     }
@@ -149,9 +106,9 @@ impl Scanner {
         ensures test { is_ok result ≡ not (wrong self.now.mode) }
         ensures flaw { IfErr result (λ f. flawed f ≡ self.now.word) }
     {
-        if is_wrong(self.mode) {
+        if self.mode.is_wrong() {
             return Err(self.no_number());
         }
-        Ok(word_of(self.mode))
+        Ok(self.mode.word())
     }
 }

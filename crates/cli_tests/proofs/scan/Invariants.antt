@@ -1,6 +1,6 @@
-use Rattle.std.proofs.Common.{◌≤◌, vec_len}
+use Rattle.std.proofs.Common.{◌≡◌}
 use Rattle.cli_tests.proofs.scan.Given as goal
 
--- The words stay within what is allowed.
+-- The list may have as many words as before, and they stay the caller's.
 abbrev pub invariant-loop-piece : goal.invariant-loop-piece
-invariant-loop-piece l = vec_len l.initial.words ≤ l.most → vec_len l.words ≤ l.most
+invariant-loop-piece l = (l.list.most ≡ l.initial.list.most) × (l.list.words.ghost_name ≡ l.initial.list.words.ghost_name)

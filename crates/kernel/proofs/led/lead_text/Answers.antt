@@ -1,9 +1,13 @@
-use Rattle.kernel.proofs.Leads.{whole}
+use Rattle.kernel.proofs.Leads.{whole_end, whole_clash}
+use Rattle.kernel.proofs.Progress.{broke}
 use Rattle.kernel.proofs.Whole.{some_begins}
 use Rattle.kernel.proofs.led.lead_text.Goals as goal
 
 pub carry_on-requires : goal.carry_on-requires
-carry_on-requires c = some_begins c.open-stamp.result c.begin_all.ensures c.open-stamp.ensures _ _ c.requires.text c.requires.lent.3 c.open-stamp.auto.marks
+carry_on-requires c = some_begins c.begin.ensures.begun c.begin.ensures.memory c.begin.ensures.stays c.open-ledger.ensures.opened c.requires.text c.requires.room c.open-ledger.ensures.as_many
+
+pub returns-in_err-carry_on : goal.returns-in_err-carry_on
+returns-in_err-carry_on c = broke _ _ c.from_residual.result _ c.from_residual.ensures.1 (whole_clash c.begin.ensures.begun c.begin.ensures.memory c.begin.ensures.stays c.open-ledger.ensures.opened c.requires.text c.in_err-carry_on.ensures)
 
 pub returns : goal.returns
-returns c = whole _ c.open-stamp.result c.begin_all.ensures c.open-stamp.ensures c.requires.text c.carry_on.result c.carry_on.ensures
+returns c = whole_end c.begin.ensures.begun c.begin.ensures.memory c.begin.ensures.stays c.open-ledger.ensures.opened c.requires.text c.in_ok-carry_on.ensures

@@ -1,12 +1,12 @@
 -- each order has been carried on so far, and each turn leaves less to do
-use Rattle.machine.specs.Stands.{source}
-use Rattle.machine.specs.Loads.{loads}
-use Rattle.kernel.specs.Order.{board}
+use Rattle.machine.specs.Engines.{Stays}
+use Rattle.kernel.specs.Held.{left}
+use Rattle.kernel.specs.Watching.{told_in}
 use Rattle.kernel.proofs.Plays.{Playing}
 use Rattle.kernel.proofs.order.play.Given as goal
 
 abbrev pub invariant-order : goal.invariant-order
-invariant-order l = Playing (source l.script) l.threads (board l.initial.work l.initial.memory l.initial.marks l.initial.told) (board l.work l.memory l.marks l.told)
+invariant-order l = Playing l.initial.engine (told_in l.initial.watch) l.engine (told_in l.watch) × Stays l.initial.engine l.engine
 
 abbrev pub decreases-order : goal.decreases-order
-decreases-order l = loads (source l.script) l.work l.threads
+decreases-order l = left l.engine

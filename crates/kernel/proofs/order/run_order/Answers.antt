@@ -1,8 +1,12 @@
-use Rattle.kernel.proofs.Whole.{begins, some_begins, order_post}
+use Rattle.std.proofs.Common.{◌∙◌}
+use Rattle.kernel.proofs.Whole.{begins_watched, some_watched, order_post}
 use Rattle.kernel.proofs.order.run_order.Goals as goal
 
-pub play-told-requires : goal.play-told-requires
-play-told-requires c = some_begins c.open-stamp.result c.begin_all.ensures c.open-stamp.ensures _ _ c.requires.text c.requires.room c.open-stamp.auto.marks
+pub play-requires : goal.play-requires
+play-requires c = some_watched _ c.begin.ensures.begun c.begin.ensures.memory c.begin.ensures.stays c.requires.text _ c.open-watch.ensures c.requires.room
 
-pub returns : goal.returns
-returns c = order_post (λ k text. begins c.open-stamp.result c.begin_all.ensures c.open-stamp.ensures k _ text) c.play-told.ensures c.write_states.ensures c.clashed.ensures c.requires.text
+pub returns-clause-order : goal.returns-clause-order
+returns-clause-order c =
+    order_post c.args.engine.now c.requires.text
+    (begins_watched _ c.begin.ensures.begun c.begin.ensures.memory c.begin.ensures.stays c.requires.text _ c.open-watch.ensures)
+    c.play.ensures.played (c.play.ensures.stays.threads ∙ c.begin.ensures.stays.threads) c.write_states.ensures c.clashed.ensures

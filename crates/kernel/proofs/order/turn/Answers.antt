@@ -1,8 +1,8 @@
-use Rattle.kernel.proofs.Turns.{waiting_resumed, resumes, released_ends}
+use Rattle.kernel.proofs.Turns.{resumes, ends}
 use Rattle.kernel.proofs.order.turn.Goals as goal
 
-pub returns-in-Waiting : goal.returns-in-Waiting
-returns-in-Waiting c = resumes c.in_default.ensures (waiting_resumed c.in-Waiting.ensures) c.resumed.ensures
+pub returns-then-not-resume-clause-turned : goal.returns-then-not-resume-clause-turned
+returns-then-not-resume-clause-turned c = ends c.resume.ensures.stays c.resume.ensures.memory c.in_default.ensures c.if-not-resume.ensures.resumed
 
-pub returns-in-Nobody : goal.returns-in-Nobody
-returns-in-Nobody c = released_ends c.in_default.ensures _ c.in-Nobody.is c.release_all.ensures
+pub returns-clause-turned : goal.returns-clause-turned
+returns-clause-turned c = resumes c.resume.ensures.stays c.resume.ensures.memory c.in_default.ensures c.if-not-resume.ensures.resumed c.resumed.ensures

@@ -4,13 +4,10 @@ use Rattle.kernel.proofs.Progress.{broke, goes_on, meets}
 use Rattle.kernel.proofs.sequence.run_stretch.Goals as goal
 
 pub threads-preserved : goal.threads-preserved
-threads-preserved c = goes_on c.threads.invariant c.run_thread.auto.memory c.run_thread.auto.marks c.run_thread.ensures.lighter c.in_ok-run_thread.ensures.on
+threads-preserved c = goes_on c.threads.invariant c.run_thread.ensures.stays c.run_thread.ensures.same_marks c.run_thread.ensures.lighter c.in_ok-run_thread.ensures.on
 
-pub returns-in_err-run_thread : goal.returns-in_err-run_thread
-returns-in_err-run_thread c = record {
-  on = broke _ _ c.from_residual.result _ c.from_residual.ensures.1 (meets c.threads.invariant c.in_err-run_thread.ensures.on);
-  lighter = omega (arith, c.run_thread.ensures.lighter, c.threads.invariant.lighter);
-}
+pub returns-in_err-run_thread-clause-on : goal.returns-in_err-run_thread-clause-on
+returns-in_err-run_thread-clause-on c = broke _ _ c.from_residual.result _ c.from_residual.ensures.1 (meets c.threads.invariant c.in_err-run_thread.ensures.on)
 
-pub returns : goal.returns
-returns c = record { on = subst (CameOn _ _ _ _ _) (omega arith) c.threads.invariant.came; lighter = c.threads.invariant.lighter }
+pub returns-clause-on : goal.returns-clause-on
+returns-clause-on c = subst (CameOn _ _ _ _ _) (omega (arith, c.threads.invariant.stays.threads)) c.threads.invariant.came

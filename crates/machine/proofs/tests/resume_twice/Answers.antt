@@ -1,9 +1,9 @@
-use Rattle.std.proofs.Common.{arith}
-use Rattle.machine.proofs.Running.{running_begun, running_resumed}
+use Rattle.std.proofs.Common.{refl}
+use Rattle.machine.proofs.Running.{running_resumed, stays_running}
 use Rattle.machine.proofs.tests.resume_twice.Goals as goal
 
-pub go-requires : goal.go-requires
-go-requires c = record { runs = running_begun c.args.memory.now (c.new-script.ensures.each _ _ _ c.requires.decoded c.requires.counts) c.begin_all.ensures; known = omega arith }
+pub start-requires-clause-text : goal.start-requires-clause-text
+start-requires-clause-text c = (_, c.new-script.ensures.each _ _ _ c.requires.decoded c.requires.counts)
 
-pub go-requires-3 : goal.go-requires-3
-go-requires-3 c = record { runs = running_resumed c.resume_all-first.ensures c.go-2.ensures; known = omega arith }
+pub go_both-requires-clause-runs : goal.go_both-requires-clause-runs
+go_both-requires-clause-runs c = stays_running c.resume-first.ensures.stays c.resume-first.ensures.memory (running_resumed c.resume-first.ensures.resumed (stays_running c.start.ensures.stays refl c.start.ensures.runs))

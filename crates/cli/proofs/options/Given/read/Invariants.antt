@@ -1,7 +1,6 @@
-use Rattle.std.proofs.Common.{◌≡◌, true, IfSome}
+use Rattle.std.specs.Vec.Iter.{into_iter_len}
 use Rattle.cli.proofs.options.Given.read.Given as goal
-use Rattle.cli.specs.Options.{valued}
 
--- An option that awaits its value takes one.
-abbrev pub invariant-loop-word : goal.invariant-loop-word
-invariant-loop-word l = IfSome l.awaited (λ f. valued f ≡ true)
+-- The words that are left.
+abbrev pub decreases-loop-word : goal.decreases-loop-word
+decreases-loop-word l = into_iter_len l.words

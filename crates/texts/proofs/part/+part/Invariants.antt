@@ -1,4 +1,0 @@
-use Rattle.texts.proofs.part.+part.Given as goal
-
-abbrev pub decreases-part : goal.decreases-part
-decreases-part l = l.deep

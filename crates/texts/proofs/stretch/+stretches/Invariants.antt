@@ -1,4 +1,0 @@
-use Rattle.texts.proofs.stretch.+stretches.Given as goal
-
-abbrev pub decreases-stretches : goal.decreases-stretches
-decreases-stretches l = l.deep
