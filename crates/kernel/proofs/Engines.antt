@@ -20,5 +20,6 @@ then_stays first second = record {
   threads = second.threads ∙ first.threads;
   same_work = second.same_work ∙ first.same_work;
   same_memory = second.same_memory ∙ first.same_memory;
+  words_as_long = second.words_as_long ∙ first.words_as_long;
   as_long = second.as_long ∙ first.as_long;
 }

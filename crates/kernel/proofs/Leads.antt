@@ -1,11 +1,10 @@
 -- The order that is led step by step: a step of it, its end, and what both say of the whole.
-use Rattle.std.proofs.Common.{◌≡◌, ℕ, suc, ◌<◌, Bool, true, false, length, Some, None, Option, IsErrAnd, Ok, Err, Result, sym, refl, subst, subst₂, MatchResult}
-use Rattle.model.specs.declared.Clash.{Clash}
-use Rattle.model.specs.declared.Place.{Place}
+use Rattle.std.proofs.Common.{◌≡◌, ℕ, suc, ◌<◌, Bool, true, false, length, Some, None, Option, IsErrAnd, Ok, Err, Result, sym, refl, subst, true≢false}
+use Rattle.std.specs.Result.{is_err}
 use Rattle.model.specs.declared.ThreadId.{ThreadId}
 use Rattle.model.specs.Kernel.{Kernel}
 use Rattle.model.specs.Rows.{Rows}
-use Rattle.model.specs.Races.{Race, Racy}
+use Rattle.model.specs.Races.{Racy}
 use Rattle.model.specs.Steps.{stepped, one}
 use Rattle.machine.specs.declared.engine.Engine.{Engine}
 use Rattle.machine.specs.declared.touched.Touch.{Touch}
@@ -15,41 +14,42 @@ use Rattle.machine.specs.Stands.{source}
 use Rattle.machine.specs.Stepped.{SteppedOf}
 use Rattle.machine.specs.Together.{status_at}
 use Rattle.ledger.specs.Places.{Notes}
-use Rattle.ledger.specs.Promises.{OpenPost}
+use Rattle.ledger.specs.declared.places.Earlier.{Earlier}
+use Rattle.ledger.specs.Promises.{NotePost, OpenPost}
 use Rattle.kernel.specs.declared.led.ClashAt.{ClashAt}
-use Rattle.kernel.specs.Led.{met_at, ToClash, ToEnd, GoneOn, LeadsToEnd, LeadsToClash}
-use Rattle.kernel.specs.Noting.{Noted, StepNoted}
+use Rattle.kernel.specs.Led.{ToClash, ToEnd, GoneOn, LeadsToEnd, LeadsToClash}
 use Rattle.kernel.specs.Order.{WentOn, AtEnd}
 use Rattle.kernel.specs.Ran.{SomeText}
 use Rattle.kernel.proofs.Advances.{advances}
 use Rattle.kernel.proofs.Moves.{goer, touch_grows}
 use Rattle.kernel.proofs.Paths.{then, calm}
 use Rattle.kernel.proofs.Plays.{Playing}
-use Rattle.kernel.proofs.Watches.{untouched_watched, fine_watched}
+use Rattle.kernel.proofs.Watches.{untouched_watched, grown, fine_watched}
 use Rattle.kernel.proofs.Whole.{begins, decided, text_of}
 
--- a step that is noted goes on, and one whose touch is told as a clash is a step to that clash
-module _ {e e' : Engine} {l l' : Notes} {i : ThreadId} {r : Result (Unit {0}) Clash} (stays : Stays e e') (same : length l'.words ≡ length l.words) (within : i.0 < e.threads) (goes : status_at e.work.now i.0 ≡ 0) (step : StepNoted e e' l l' i r) where
-  noted_on : (τ : Option Touch) (r : Result (Unit {0}) Clash) → Noted l l' i τ r → SteppedOf (source e.script.now) i.0 e.threads e.work.now e'.work.now e.memory.now e'.memory.now τ → MatchResult r (λ _. WentOn e (Some l) e' (Some l')) (λ k. ToClash e l (met_at k))
-  noted_on None r (is, none) step =
-      subst (λ r. MatchResult r (λ _. WentOn e (Some l) e' (Some l')) (λ k. ToClash e l (met_at k))) (sym is)
-      (subst (λ l'. WentOn e (Some l) e' (Some l')) (sym none) (advances None stays within goes step (untouched_watched (Some l) i.0 None refl)))
-  noted_on (Some t) (Ok done) post step = advances (Some t) stays within goes step (fine_watched i.0 refl (Some t) t refl (Ok tt) refl post same)
-  noted_on (Some t) (Err k) (post, by, at) step = record {
-    each = λ b st run.
-        let g = goer st run.held within goes in
-        let moved = step.each st g.thread run.held g.is g.goes in
-        let race = post.means.race st (stepped st i.0 g.thread) run.said.0 (touch_grows st g.thread (Some t) moved g.is) in
-        record {
-          state = stepped st i.0 g.thread;
-          reached = (suc run.count, then run.count b st (stepped st i.0 g.thread) run.path (one i.0 g.thread g.is g.goes));
-          other = race.0;
-          race = subst₂ (λ (j : ThreadId) (a : Place). Race (stepped st i.0 g.thread) race.0 j.0 a.0) (sym by) (sym at) race.1;
-        };
-  }
+-- a step that touches nothing goes on, and so does one whose touch is noted; one whose touch is told as a clash is a step to that clash
+module _ {e e' : Engine} {i : ThreadId} {τ : Option Touch} (stays : Stays e e') (within : i.0 < e.threads) (goes : status_at e.work.now i.0 ≡ 0) (step : SteppedOf (source e.script.now) i.0 e.threads e.work.now e'.work.now e.memory.now e'.memory.now τ) where
+  pub step_untouched : {l : Notes} → τ ≡ None → WentOn e (Some l) e' (Some l)
+  step_untouched {l} none = advances τ stays within goes step (untouched_watched (Some l) i.0 τ none)
 
-  pub step_leads : MatchResult r (λ _. WentOn e (Some l) e' (Some l')) (λ k. ToClash e l (met_at k))
-  step_leads = noted_on step.touch r step.noted step.step
+  module _ {l l' : Notes} (t : Touch) (touch : τ ≡ Some t) where
+    pub step_fine : (r : Result (Unit {0}) Earlier) → is_err r ≡ false → NotePost l l' i.0 t.place.0 t.access r → length l'.words ≡ length l.words → WentOn e (Some l) e' (Some l')
+    step_fine r fine post same = advances τ stays within goes step (fine_watched i.0 refl τ t touch r fine post same)
+
+    pub step_clashes : (r : Result (Unit {0}) Earlier) → is_err r ≡ true → NotePost l l' i.0 t.place.0 t.access r → ToClash e l (record { thread = i; place = t.place })
+    step_clashes (Ok done) clash post = absurd (true≢false (sym clash))
+    step_clashes (Err first) clash post = record {
+      each = λ b st run.
+          let g = goer st run.held within goes in
+          let moved = step.each st g.thread run.held g.is g.goes in
+          let race = post.means.race st (stepped st i.0 g.thread) run.said.0 (grown i.0 τ t touch (touch_grows st g.thread τ moved g.is)) in
+          record {
+            state = stepped st i.0 g.thread;
+            reached = (suc run.count, then run.count b st (stepped st i.0 g.thread) run.path (one i.0 g.thread g.is g.goes));
+            other = race.0;
+            race = race.1;
+          };
+    }
 
 -- a clash that a `?` passes on
 pub passed_on : {e : Engine} (e' : Engine) {l : Notes} (l' : Notes) (r : Result Bool ClashAt) (k : ClashAt) → IsErrAnd r (λ y. y ≡ k) → ToClash e l k → GoneOn e l e' l' r

@@ -1,15 +1,15 @@
 -- What is told after a touch, or after all that wait have gone on.
-use Rattle.std.proofs.Common.{◌≡◌, ℕ, length, Some, None, Option, true, false, Ok, Err, Result, sym, subst, true≢false, arith}
+use Rattle.std.proofs.Common.{◌≡◌, ℕ, List, length, Some, None, Option, true, false, Ok, Err, Result, sym, subst, subst₂, true≢false, arith}
 use Rattle.std.specs.Result.{is_err}
 use Rattle.model.specs.Steps.{State}
 use Rattle.machine.specs.declared.touched.Touch.{Touch}
 use Rattle.machine.specs.Rules.{touches}
 use Rattle.ledger.specs.declared.places.Earlier.{Earlier}
-use Rattle.ledger.specs.Places.{Notes}
+use Rattle.ledger.specs.Places.{Notes, notes}
 use Rattle.ledger.specs.Tells.{Tells, Grows}
 use Rattle.ledger.specs.Promises.{one_touch, NotePost, NextPost}
 use Rattle.ledger.proofs.Tells.{kept_tells}
-use Rattle.kernel.specs.Watching.{Room, touching, resuming, Follows, Watched}
+use Rattle.kernel.specs.Watching.{noted_in, Room, touching, resuming, Follows, Watched}
 
 quiet_watched : (R : State → State → Type 0) {w w' : Option Notes} (l : Notes) → w ≡ Some l → ((s u : State) → R s u → Tells l s → Follows w' u) → ((places : ℕ) → Room places (Some l) → Room places w') → Watched R w w'
 quiet_watched R l is each room = record {
@@ -21,6 +21,10 @@ quiet_watched R l is each room = record {
 -- as many words have room for as many places
 as_much_room : (l l' : Notes) → length l'.words ≡ length l.words → (places : ℕ) → Room places (Some l) → Room places (Some l')
 as_much_room l l' same places room = omega (arith, same, room)
+
+-- what goes with what a ledger tells goes with a watch over it
+pub watched_over : {R : State → State → Type 0} {w : Option Notes} {stamp : Option ℕ} {n : ℕ} {marks marks' : List ℕ} → stamp ≡ Some n → marks ≡ marks' → Watched R w (Some (notes marks' n)) → Watched R w (noted_in stamp marks)
+watched_over {R} {w} is same watched = subst₂ (λ stamp marks. Watched R w (noted_in stamp marks)) (sym is) (sym same) watched
 
 -- where nothing was touched, the same is told
 pub untouched_watched : (w : Option Notes) (i : ℕ) (τ : Option Touch) → τ ≡ None → Watched (touching i (touches τ)) w w

@@ -1,5 +1,5 @@
 -- What is promised of the order that is led step by step.
-use Rattle.std.specs.Prelude.{ℕ, Bool, true, false, ◌&&◌, List, length, Ok, Err, Result, Some, ◌==◌}
+use Rattle.std.specs.Prelude.{◌≡◌, ℕ, Bool, true, false, ◌&&◌, List, length, Ok, Err, Result, Some, ◌==◌}
 use Rattle.model.specs.declared.Clash.{Clash}
 use Rattle.model.specs.Kernel.{Kernel}
 use Rattle.model.specs.Rows.{Rows}
@@ -41,6 +41,11 @@ pub record ToClash (e : Engine) (l : Notes) (k : ClashAt) : Type 0 where
 -- .. or to an end
 pub record ToEnd (e : Engine) (l : Notes) : Type 0 where
   pub each : (b st : State) → Run e (Some l) b st → EndsCalmly b
+
+-- thread i took a step, which was fine, or clashed
+abbrev pub SteppedOn : Engine → Notes → Engine → Notes → ℕ → Result (Unit {0}) ClashAt → Type 0
+SteppedOn e l e' l' i (Ok done) = WentOn e (Some l) e' (Some l')
+SteppedOn e l e' l' i (Err k) = ToClash e l k × (k.thread.0 ≡ i)
 
 -- it has gone on, or is at its end, or has come to a clash
 abbrev pub GoneOn : Engine → Notes → Engine → Notes → Result Bool ClashAt → Type 0

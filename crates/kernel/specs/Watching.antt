@@ -3,21 +3,19 @@ use Rattle.std.specs.Prelude.{◌≡◌, ℕ, ◌+◌, ◌*◌, ◌<◌, ◌≤�
 use Rattle.model.specs.Steps.{Touch as ModelTouch, State, resumed}
 use Rattle.model.specs.Orders.{Clash}
 use Rattle.machine.specs.declared.touched.Touch.{Touch}
-use Rattle.ledger.specs.declared.places.Ledger.{Ledger}
-use Rattle.ledger.specs.Lent.{notes_in}
-use Rattle.ledger.specs.Places.{Notes}
+use Rattle.ledger.specs.Places.{Notes, notes}
 use Rattle.ledger.specs.Promises.{OpenPost}
 use Rattle.ledger.specs.Runs.{ledger_words}
 use Rattle.ledger.specs.Tells.{Tells, Grows}
 use Rattle.kernel.specs.declared.watch.Watch.{Watch}
 
--- what is noted while there was no clash
-abbrev pub noted_in : Option Ledger → Option Notes
-noted_in (Some l) = Some (notes_in l)
-noted_in None = None
+-- what is noted in the marks while there was no clash, in the stretch with this stamp
+abbrev pub noted_in : Option ℕ → List ℕ → Option Notes
+noted_in (Some stamp) marks = Some (notes marks stamp)
+noted_in None marks = None
 
-abbrev pub told_in : Watch → Option Notes
-told_in w = noted_in w.0
+abbrev pub told_in : Watch → List ℕ → Option Notes
+told_in w marks = noted_in w.0 marks
 
 abbrev pub has_clashed : Option Notes → Bool
 has_clashed (Some l) = false

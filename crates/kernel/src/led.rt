@@ -2,22 +2,23 @@
 // that `run` tells, which shares nothing with it but the engine and the ledger.
 // Engine and ledger go side by side: of a struct that holds both nothing is known of what the lent words end as. For that
 // reason `SomeRun`, which speaks of both, is asked by each function and is no invariant.
-ghost use Rattle.std.specs.Prelude.{◌≡◌, ◌≤◌, length, Some, MatchResult};
+ghost use Rattle.std.specs.Prelude.{◌≡◌, ◌<◌, ◌≤◌, length, Some, MatchResult};
 ghost use Rattle.machine.specs.Engines.{Stays};
 ghost use Rattle.machine.specs.Stands.{source};
+ghost use Rattle.machine.specs.Together.{status_at};
 ghost use Rattle.ledger.specs.Lent.{notes_in, SameMarks};
 ghost use Rattle.ledger.specs.Runs.{ledger_words};
 ghost use Rattle.kernel.specs.declared.led.NotCalm.TheVariants.{NotRun, Clashed};
 ghost use Rattle.kernel.specs.Jobs.{sizes_of};
 ghost use Rattle.kernel.specs.Order.{SomeRun};
 ghost use Rattle.kernel.specs.Ran.{SomeText};
-ghost use Rattle.kernel.specs.Led.{met_at, GoneOn, ToEnd, ToClash, LeadsToEnd, LeadsToClash, LedSays, meets};
+ghost use Rattle.kernel.specs.Led.{met_at, SteppedOn, GoneOn, ToEnd, ToClash, LeadsToEnd, LeadsToClash, LedSays, meets};
 
 use crate::choice::next_of;
 use crate::job::{Job, Lent, Refused};
-use crate::noted::step_noted;
+use crate::watch::note_touch;
 use ledger::Ledger;
-use machine::{Engine, Script};
+use machine::{Engine, Script, Touch};
 use model::{Clash, Place, ThreadId};
 
 // A thread whose step clashed with what another one had touched, and the place. It is no `Clash`: which thread touched the
@@ -28,7 +29,7 @@ pub struct ClashAt {
     pub place: Place,
 }
 
-// The thread that takes the step is the second of the two.
+// A clash as the second of its threads meets it.
 impl From<Clash> for ClashAt {
     ghost from_gives = { λ clash at. at ≡ met_at clash };
 
@@ -75,6 +76,25 @@ pub fn meets(led: Result<u32, NotCalm>, told: Clash) -> bool
     }
 }
 
+// A thread that is going takes a step, and what it touched is noted. It is not the step of `run`: who clashes, and where, is told
+// here once more.
+fn step_on(engine: &mut Engine, ledger: &mut Ledger, thread: ThreadId) -> Result<(), ClashAt>
+    requires some { SomeRun engine.old (Some (notes_in ledger.old)) }
+    requires within { thread.0 < engine.old.threads }
+    requires goes { status_at engine.old.work.now thread.0 ≡ 0 }
+    ensures on { SteppedOn engine.old (notes_in ledger.old) engine.new (notes_in ledger.new) thread.0 result }
+    ensures stays { Stays engine.old engine.new }
+    ensures same_marks { SameMarks ledger.old ledger.new }
+{
+    let Some(Touch { place, access }) = engine.step(thread) else {
+        return Ok(());
+    };
+    if note_touch(ledger, thread, place, access).is_err() {
+        return Err(ClashAt { thread, place });
+    }
+    Ok(())
+}
+
 // The first thread that is going takes a step, or, where none is, all that wait go on, and the order with it; nothing at
 // an end. It is no turn of `order`: that one goes on past a clash, and its promise speaks of a ledger that may be gone.
 fn turn(engine: &mut Engine, ledger: &mut Ledger) -> Result<bool, ClashAt>
@@ -84,7 +104,7 @@ fn turn(engine: &mut Engine, ledger: &mut Ledger) -> Result<bool, ClashAt>
     ensures same_marks { SameMarks ledger.old ledger.new }
 {
     if let Some(thread) = next_of(engine, 0) {
-        step_noted(engine, ledger, thread)?;
+        step_on(engine, ledger, thread)?;
         return Ok(true);
     }
     if !engine.resume() {

@@ -14,46 +14,49 @@ use crate::choice::next_of;
 use crate::draw::Draw;
 use crate::states::write_states;
 use crate::watch::Watch;
-use machine::Engine;
+use machine::{Engine, Released};
 use model::ThreadId;
 
 // A thread that is going takes a step, and what it touched is noted.
-fn advance(engine: &mut Engine, watch: &mut Watch, thread: ThreadId)
-    requires some { SomeRun engine.old (told_in watch.old) }
+fn advance(engine: &mut Engine, watch: &mut Watch, marks: &mut [u32], thread: ThreadId)
+    requires some { SomeRun engine.old (told_in watch.old marks.old) }
     requires within { thread.0 < engine.old.threads }
     requires goes { status_at engine.old.work.now thread.0 ≡ 0 }
-    ensures on { WentOn engine.old (told_in watch.old) engine.new (told_in watch.new) }
+    ensures on { WentOn engine.old (told_in watch.old marks.old) engine.new (told_in watch.new marks.new) }
     ensures stays { Stays engine.old engine.new }
 {
     let touch = engine.step(thread);
-    watch.noted(thread, touch);
+    *watch = watch.noted(marks, thread, touch);
 }
 
-// A drawn thread takes a step, or, where none is going, all that wait go on, and the order with it; nothing at an end.
-fn turn(engine: &mut Engine, watch: &mut Watch, draw: &mut Draw) -> bool
-    requires { SomeRun engine.old (told_in watch.old) }
-    ensures turned { Turned engine.old (told_in watch.old) engine.new (told_in watch.new) result }
+// A drawn thread takes a step, or, where none is going, all that wait go on, and the order with it; nothing at an end. It asks
+// `release`, which looks at all threads itself: `run` and `lead` go on by `resume`, and `trial` holds the two to each other.
+fn turn(engine: &mut Engine, watch: &mut Watch, marks: &mut [u32], draw: &mut Draw) -> bool
+    requires { SomeRun engine.old (told_in watch.old marks.old) }
+    ensures turned { Turned engine.old (told_in watch.old marks.old) engine.new (told_in watch.new marks.new) result }
     ensures stays { Stays engine.old engine.new }
 {
     let from = draw.below(engine.threads);
     if let Some(thread) = next_of(engine, from) {
-        advance(engine, watch, thread);
+        advance(engine, watch, marks, thread);
         return true;
     }
-    if !engine.resume() {
-        return false;
+    match engine.release() {
+        Released::Waiting => {
+            *watch = watch.resumed(marks);
+            true
+        }
+        Released::Nobody | Released::End => false,
     }
-    watch.resumed();
-    true
 }
 
 // The order is carried on to an end.
-fn play(engine: &mut Engine, watch: &mut Watch, draw: &mut Draw)
-    requires { SomeRun engine.old (told_in watch.old) }
-    ensures played { Played engine.old (told_in watch.old) engine.new (told_in watch.new) }
+fn play(engine: &mut Engine, watch: &mut Watch, marks: &mut [u32], draw: &mut Draw)
+    requires { SomeRun engine.old (told_in watch.old marks.old) }
+    ensures played { Played engine.old (told_in watch.old marks.old) engine.new (told_in watch.new marks.new) }
     ensures stays { Stays engine.old engine.new }
 {
-    'order: while turn(engine, watch, draw) {}
+    'order: while turn(engine, watch, marks, draw) {}
 }
 
 // One order of the text, from the begin to its end, with each next thread drawn: what it leaves in the memory,
@@ -73,7 +76,7 @@ pub fn run_order(
 {
     engine.begin(turns);
     let mut watch = Watch::open(marks);
-    play(engine, &mut watch, draw);
+    play(engine, &mut watch, marks, draw);
     write_states(engine, states);
     watch.clashed()
 }

@@ -1,9 +1,10 @@
 // The one order that `run` goes through: threads go one after the other, each until it waits or stops.
 // Engine and ledger go side by side: of a struct that holds both nothing is known of what the lent words end as. For that
 // reason `SomeInTurn`, which speaks of both, is asked by each function and is no invariant.
-ghost use Rattle.std.specs.Prelude.{◌+◌, ◌<◌, ◌≤◌, length, MatchResult};
+ghost use Rattle.std.specs.Prelude.{◌≡◌, ◌+◌, ◌*◌, ◌<◌, ◌≤◌, ◌↔◌, length, IsTrue, MatchResult};
 ghost use Rattle.machine.specs.Engines.{Stays};
 ghost use Rattle.machine.specs.Stands.{source};
+ghost use Rattle.machine.specs.Together.{status_at};
 ghost use Rattle.ledger.specs.Lent.{notes_in, SameMarks};
 ghost use Rattle.ledger.specs.Runs.{ledger_words};
 ghost use Rattle.kernel.specs.Held.{left};
@@ -15,6 +16,14 @@ use ledger::Ledger;
 use machine::Engine;
 use model::{Clash, ThreadId};
 
+// Whether a thread takes steps: one that has stopped is not waited for.
+fn goes(engine: &Engine, thread: ThreadId) -> bool
+    requires { 1024 * thread.0 + 1024 ≤ length engine.now.work.now }
+    ensures { IsTrue result ↔ status_at engine.now.work.now thread.0 ≡ 0 }
+{
+    engine.is_going(thread)
+}
+
 // A thread goes on until it waits or stops.
 fn run_thread(engine: &mut Engine, ledger: &mut Ledger, thread: ThreadId) -> Result<(), Clash>
     requires some { SomeInTurn engine.old (notes_in ledger.old) thread.0 }
@@ -24,7 +33,7 @@ fn run_thread(engine: &mut Engine, ledger: &mut Ledger, thread: ThreadId) -> Res
     ensures stays { Stays engine.old engine.new }
     ensures same_marks { SameMarks ledger.old ledger.new }
 {
-    'steps: while engine.is_going(thread) {
+    'steps: while goes(engine, thread) {
         step_noted(engine, ledger, thread)?;
     }
     Ok(())

@@ -1,11 +1,11 @@
 // What is told of an order so far: touches are noted until two threads have clashed.
-ghost use Rattle.std.specs.Prelude.{◌≡◌, ◌+◌, ◌*◌, ◌<◌, length};
+ghost use Rattle.std.specs.Prelude.{◌≡◌, ℕ, Some, ◌+◌, ◌*◌, ◌<◌, List, length};
 ghost use Rattle.machine.specs.Rules.{touches};
 ghost use Rattle.ledger.specs.Lent.{notes_in, SameMarks};
 ghost use Rattle.ledger.specs.Promises.{NotePost, OpenPost};
 ghost use Rattle.kernel.specs.Watching.{told_in, Within, Opened, touching, resuming, Watched, has_clashed};
 
-use ledger::{Access, Change, Earlier, Ledger};
+use ledger::{Access, Change, Earlier, Ledger, Stamp};
 use machine::Touch;
 use model::{Place, ThreadId};
 
@@ -32,45 +32,67 @@ pub fn note_touch(
     }
 }
 
-// The ledger, while there was no clash.
-#[derive(Drop)]
-pub struct Watch<'a>(pub Option<Ledger<'a>>);
+// Notes a touch of a drawn order, by one call for all ways of touching.
+fn note_drawn(ledger: &mut Ledger, thread: ThreadId, touch: Touch) -> Result<(), Earlier>
+    requires within { 2 * touch.place.0 + 1 < length ledger.old.marks.now }
+    ensures noted { NotePost (notes_in ledger.old) (notes_in ledger.new) thread.0 touch.place.0 touch.access result }
+    ensures same_marks { SameMarks ledger.old ledger.new }
+{
+    ledger.note(thread, touch.place, touch.access)
+}
 
-impl<'a> Watch<'a> {
-    // An order begins, and nothing is noted.
-    pub fn open(marks: &'a mut [u32]) -> Watch<'a>
-        ensures { Opened (length marks.old) (told_in result) }
+// In which stretch an order is, while there was no clash. The marks stand beside it, and are the caller's: a watch can be
+// copied, and what its marks end as is promised of them.
+#[derive(Clone, Copy, Debug, PartialEq, Eq)]
+pub struct Watch(pub Option<Stamp>);
+
+impl Watch {
+    // In the stretch of a ledger. By a function, since of a ledger whose stamp is taken out nothing is known of what its marks end as.
+    fn over(ledger: &Ledger) -> Watch
+        ensures { result.0 ≡ Some ledger.now.stamp }
     {
-        Watch(Some(Ledger::open(marks)))
+        Watch(Some(ledger.stamp))
+    }
+
+    // An order begins, and nothing is noted.
+    pub fn open(marks: &mut [u32]) -> Watch
+        ensures { Opened (length marks.old) (told_in result marks.new) }
+    {
+        Watch::over(&Ledger::open(marks))
     }
 
     // A thread took a step, and touched this.
-    pub fn noted(&mut self, thread: ThreadId, touch: Option<Touch>)
-        requires { Within (told_in self.old) touch }
-        ensures { Watched (touching thread.0 (touches touch)) (told_in self.old) (told_in self.new) }
+    pub fn noted(self, marks: &mut [u32], thread: ThreadId, touch: Option<Touch>) -> Watch
+        requires { Within (told_in self marks.old) touch }
+        ensures { Watched (touching thread.0 (touches touch)) (told_in self marks.old) (told_in result marks.new) }
     {
-        let Some(Touch { place, access }) = touch else {
-            return;
+        let Some(touch) = touch else {
+            return self;
         };
-        let Some(ledger) = &mut self.0 else {
-            return;
+        let Some(stamp) = self.0 else {
+            return self;
         };
-        if ledger.note(thread, place, access).is_err() {
-            self.0 = None;
+        let mut ledger = Ledger { marks, stamp };
+        if note_drawn(&mut ledger, thread, touch).is_err() {
+            return Watch(None);
         }
+        Watch::over(&ledger)
     }
 
     // All that wait go on.
-    pub fn resumed(&mut self)
-        ensures { Watched resuming (told_in self.old) (told_in self.new) }
+    pub fn resumed(self, marks: &mut [u32]) -> Watch
+        ensures { Watched resuming (told_in self marks.old) (told_in result marks.new) }
     {
-        if let Some(ledger) = &mut self.0 {
-            ledger.next_stretch();
-        }
+        let Some(stamp) = self.0 else {
+            return self;
+        };
+        let mut ledger = Ledger { marks, stamp };
+        ledger.next_stretch();
+        Watch::over(&ledger)
     }
 
-    pub fn clashed(&self) -> bool
-        ensures { result ≡ has_clashed (told_in self.now) }
+    pub fn clashed(self) -> bool
+        ensures { (marks : List ℕ) → result ≡ has_clashed (told_in self marks) }
     {
         self.0.is_none()
     }

@@ -8,7 +8,6 @@ use Rattle.std.proofs.lemmas.Slice.{take-put_mid_below, drop-put_mid, between-pu
 use Rattle.std.proofs.lemmas.Bool.{cases_lt}
 use Rattle.machine.specs.Words.{part}
 use Rattle.machine.specs.Together.{status_at}
-use Rattle.std.proofs.Math.Seq.{take-set-lt}
 
 -- the library's lemma, by the name that the crate above cites
 pub nth_some : {A : Type 0} (xs : List A) (j : ℕ) → j < length xs → (x : A) × (slice_get xs j ≡ Some x)
@@ -16,8 +15,17 @@ nth_some [] j l = absurd (omega arith)
 nth_some (y ∷ xs) zero l = (y, refl)
 nth_some (y ∷ xs) (suc j) l = nth_some xs j (omega arith)
 
-pub part_set_same : (j i v : ℕ) (work : List ℕ) → i < 1024 → part j (set work (1024 * j + i) v) ≡ set (part j work) i v
-part_set_same j i v work small = ap (take 1024) (drop-set-add (1024 * j) work i v) ∙ take-set-lt 1024 (drop (1024 * j) work) i v small
+-- what is set lies in the first words, or behind them
+pub set_take : (w : List ℕ) (k x v : ℕ) → set (take k w) x v ≡ take k (set w x v)
+set_take [] zero x v = refl
+set_take [] (suc k) x v = refl
+set_take (y ∷ w) zero zero v = refl
+set_take (y ∷ w) zero (suc x) v = refl
+set_take (y ∷ w) (suc k) zero v = refl
+set_take (y ∷ w) (suc k) (suc x) v = ap (λ l. y ∷ l) (set_take w k x v)
+
+pub part_set_same : (j i v : ℕ) (work : List ℕ) → part j (set work (1024 * j + i) v) ≡ set (part j work) i v
+part_set_same j i v work = ap (take 1024) (drop-set-add (1024 * j) work i v) ∙ sym (set_take (drop (1024 * j) work) 1024 i v)
 
 pub part_set_other : (k j i v : ℕ) (work : List ℕ) → i < 1024 → (j ≡ k → ⊥) → part j (set work (1024 * k + i) v) ≡ part j work
 part_set_other k j i v work small apart =

@@ -76,7 +76,7 @@ released_part (suc n) j work l =
     ⊎_elim
     (λ is.
     subst (λ j. part j (released_words (suc n) work) ≡ set (part j work) 257 (released_word (status_at work j))) (sym is)
-    (part_set_same n 257 _ (released_words n work) (omega arith) ∙ ap₂ (λ l v. set l 257 (released_word v)) (released_other n n work (omega arith)) (status_other n work)))
+    (part_set_same n 257 _ (released_words n work) ∙ ap₂ (λ l v. set l 257 (released_word v)) (released_other n n work (omega arith)) (status_other n work)))
     (λ apart. part_set_other n j 257 _ (released_words n work) (omega arith) apart ∙ released_part n j work (omega arith))
     (cases_eq j n)
 

@@ -1,4 +1,5 @@
 // Decides whether rows are a text, and fills the table of ends.
+ghost use Rattle.std.specs.Prelude.{◌≡◌, nat_lt};
 ghost use Rattle.rows.specs.Decoded.{DecodePost};
 
 use crate::head::{Kind, Words, word};
@@ -21,6 +22,25 @@ pub struct Text {
     pub deep: u32,
 }
 
+// Each test that decides is a function with a contract of its own.
+fn too_many_words(words: usize) -> bool
+    ensures { result ≡ nat_lt 65536 words }
+{
+    MOST_WORDS < words
+}
+
+fn too_many_variables(variables: u32) -> bool
+    ensures { result ≡ nat_lt 256 variables }
+{
+    MOST_VARIABLES < variables
+}
+
+fn words_behind(end: usize, words: usize) -> bool
+    ensures { result ≡ nat_lt end words }
+{
+    end < words
+}
+
 // Whether the rows are a text, and how large it is. For a text the table then holds, beside each word at
 // which a statement or an expression begins, the position behind it, and beside each other word 0. The
 // table is as long as the rows, or longer; of a refusal it holds nothing of use.
@@ -31,17 +51,17 @@ pub fn decode(rows: &[u32], ends: &mut [u32]) -> Result<Text, Refusal>
     if ends.len() < words {
         return Err(Fault::ShortTable.at(ends.len()));
     }
-    if MOST_WORDS < words {
+    if too_many_words(words) {
         return Err(Fault::TooManyWords.at(MOST_WORDS));
     }
     let variables = word(rows, 0)?;
-    if MOST_VARIABLES < variables {
+    if too_many_variables(variables) {
         return Err(Fault::TooManyVariables.at(0));
     }
     ends[..words].fill(0);
     let text = Words { rows, variables };
     let whole = Reader { text, ends }.part(Kind::Statement, 1, MOST_DEEP)?;
-    if whole.end < words {
+    if words_behind(whole.end, words) {
         return Err(Fault::AfterEnd.at(whole.end));
     }
     Ok(Text {

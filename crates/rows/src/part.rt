@@ -11,6 +11,17 @@ pub struct Part {
 }
 
 impl Part {
+    // No part, where one would begin.
+    pub fn none(at: usize) -> Part
+        ensures { result ≡ record { end = at; statements = 0; deep = 0 } }
+    {
+        Part {
+            end: at,
+            statements: 0,
+            deep: 0,
+        }
+    }
+
     // This part and the one behind it. The two can't change places, so this is no `+`.
     pub fn joined(self, next: Part) -> Part
         requires fits { self.statements + next.statements < 2 ^ 64 }

@@ -69,12 +69,19 @@ fn some_free(draw: &mut Draw) -> u32
     }
 }
 
+/// How many variables count the rounds of loops: mostly three, now and then none.
+fn some_counters(draw: &mut Draw) -> u32
+    ensures { result ≤ 3 }
+{
+    if draw.percent(15) { 0 } else { 3 }
+}
+
 impl Plan {
     pub fn draw(draw: &mut Draw) -> Plan {
         let threads = some_threads(draw);
         let words = some_words(draw, threads);
         let free = some_free(draw);
-        let counters = if draw.percent(15) { 0 } else { 3 };
+        let counters = some_counters(draw);
         Plan {
             threads,
             words,

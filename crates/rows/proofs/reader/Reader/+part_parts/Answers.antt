@@ -1,7 +1,8 @@
-use Rattle.std.proofs.Common.{suc, ◌+◌, ◌-◌, refl, ap, ◌∙◌, ap₂, arith}
+use Rattle.std.proofs.Common.{suc, ◌+◌, ◌-◌, Ok, refl, sym, ap, ◌∙◌, ap₂, subst, rules, arith}
 use Rattle.rows.specs.declared.head.Kind.TheVariants.{Statement as AStatement}
 use Rattle.rows.specs.Parts.{stmts, sort, many}
 use Rattle.rows.specs.Reader.{read_part, read_parts}
+use Rattle.rows.specs.Told.{ToldOf}
 use Rattle.rows.proofs.Exits.{broke, told_as, several_more, several_broken, same_text, same_part}
 use Rattle.rows.proofs.Layers.{head_within, front_refused, back_refused, both_read}
 use Rattle.rows.proofs.reader.Reader.+part_parts.Goals as goal
@@ -29,14 +30,19 @@ part-returns-clause-told t c =
     (both_read _ _ _ _ _ c.in_ok-head.ensures _ c.if-depth-eq0.false _ _ _ c.in_ok-front.ensures.told _ _
     (same_text (many stmts _) (read_parts AStatement _ (c.args.depth - 1)) _ c.in_ok-front.ensures.same_text c.in_ok-back.ensures.told))
 
-pub parts-returns-in_err-next-clause-told : goal.parts-returns-in_err-next-clause-told
-parts-returns-in_err-next-clause-told t c =
+pub parts-returns-then-count-eq0-clause-told : goal.parts-returns-then-count-eq0-clause-told
+parts-returns-then-count-eq0-clause-told t c =
+    subst (λ n. ToldOf (many (sort c.args.kind) n) (read_parts c.args.kind n c.args.depth) c.args.self.now.text c.args.depth c.args.at c.args.self.now.ends.now c.args.self.now.ends.now (Ok c.none.result))
+    (sym c.if-count-eq0.true) (search rules)
+
+pub some_parts-returns-in_err-next-clause-told : goal.some_parts-returns-in_err-next-clause-told
+some_parts-returns-in_err-next-clause-told t c =
     broke _ _ c.from_residual.ensures.1
     (several_broken c.args.kind _ _ _ _ _ _ _ _ c.loop.invariant.told _ _ c.loop-test.true _
     (same_text (sort _) (read_part c.args.kind c.args.depth) _ c.loop.invariant.same_text c.in_err-next.ensures.told))
 
-pub parts-loop-preserved : goal.parts-loop-preserved
-parts-loop-preserved t c = record {
+pub some_parts-loop-preserved : goal.some_parts-loop-preserved
+some_parts-loop-preserved t c = record {
   told =
       told_as refl c.joined-whole.ensures
       (several_more c.args.kind _ _ _ _ _ _ _ _ c.loop.invariant.told _ _
