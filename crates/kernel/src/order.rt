@@ -29,8 +29,8 @@ fn advance(engine: &mut Engine, watch: &mut Watch, marks: &mut [u32], thread: Th
     *watch = watch.noted(marks, thread, touch);
 }
 
-// A drawn thread takes a step, or, where none is going, all that wait go on, and the order with it; nothing at an end. It asks
-// `release`, which looks at all threads itself: `run` and `lead` go on by `resume`, and `trial` holds the two to each other.
+// A drawn thread takes a step, or, where none is going, all that wait go on, and the order with it; nothing at an end. They go on by
+// `release`, which looks at all threads itself. `run` and `lead` go on by `resume`, and `trial` holds the two to each other.
 fn turn(engine: &mut Engine, watch: &mut Watch, marks: &mut [u32], draw: &mut Draw) -> bool
     requires { SomeRun engine.old (told_in watch.old marks.old) }
     ensures turned { Turned engine.old (told_in watch.old marks.old) engine.new (told_in watch.new marks.new) result }

@@ -41,8 +41,8 @@ fn note_drawn(ledger: &mut Ledger, thread: ThreadId, touch: Touch) -> Result<(),
     ledger.note(thread, touch.place, touch.access)
 }
 
-// In which stretch an order is, while there was no clash. The marks stand beside it, and are the caller's: a watch can be
-// copied, and what its marks end as is promised of them.
+// In which stretch an order is, while there was no clash. The marks are the caller's and stand beside it: so a watch can be copied,
+// and its contracts say what the caller's marks end as.
 #[derive(Clone, Copy, Debug, PartialEq, Eq)]
 pub struct Watch(pub Option<Stamp>);
 

@@ -1,8 +1,7 @@
 // The step of all that wait: where no thread is going, they go on together.
-ghost use Rattle.std.specs.Prelude.{◌*◌, ◌≤◌, length};
-ghost use Rattle.machine.specs.Together.{Looked, Release};
+ghost use Rattle.std.specs.Prelude.{◌≡◌, ◌*◌, ◌≤◌, length};
+ghost use Rattle.machine.specs.Together.{released_words, Looked, Release};
 
-use crate::resume::resume_all;
 use crate::thread::{STATUS, Status, WORDS, status_named};
 
 // Which threads went on: nobody, since one is still going; those that waited; or nobody, since all stopped.
@@ -31,6 +30,18 @@ fn look(work: &[u32], threads: u32) -> Released
     found
 }
 
+// All that wait go on. It is no call of `resume_all`, so that a drawn order, which releases, and `run`, which resumes, share no pass.
+fn release(work: &mut [u32], threads: u32)
+    requires { 1024 * threads ≤ length work.old }
+    ensures { work.new ≡ released_words threads work.old }
+{
+    for j in 0..threads as usize {
+        if work[WORDS * j + STATUS] == Status::Waiting as u32 {
+            work[WORDS * j + STATUS] = Status::Going as u32;
+        }
+    }
+}
+
 // All that wait go on, if no thread is going and some wait. It asks for the words alone, and so do `begin_all`, `status_of` and
 // `resume_all`, so that a caller needs no engine for it; the engine's methods call them.
 pub fn release_all(work: &mut [u32], threads: u32) -> Released
@@ -39,7 +50,7 @@ pub fn release_all(work: &mut [u32], threads: u32) -> Released
 {
     let found = look(work, threads);
     if let Released::Waiting = found {
-        let _some = resume_all(work, threads);
+        release(work, threads);
     }
     found
 }

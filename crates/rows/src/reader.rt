@@ -55,7 +55,7 @@ impl Reader<'_> {
     }
 
     // .. of which there are some. It stands apart for speed: most parts have none in them, and with one function for both a text
-    // of expressions takes two fifths more instructions than with one for each kind of parts.
+    // of expressions takes seven tenths more instructions.
     #[cycle(part_parts)]
     fn some_parts(&mut self, kind: Kind, at: usize, count: u32, depth: u32) -> Result<Part, Refusal>
         requires begins { at ≤ length self.old.text.rows.now }
